@@ -1,0 +1,4 @@
+pub mod Edge
+pub mod Fields
+pub mod Memory
+pub mod Transfer
