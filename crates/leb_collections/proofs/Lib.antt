@@ -1,0 +1,5 @@
+pub mod Values
+pub mod Ends
+pub mod Reading
+pub mod Writing
+pub mod Laws
