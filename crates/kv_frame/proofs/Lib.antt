@@ -1,0 +1,5 @@
+pub mod ExtraLaws
+pub mod FrameLaws
+pub mod HeaderLaws
+pub mod Kept
+pub mod Unique
