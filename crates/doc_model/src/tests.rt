@@ -1,0 +1,91 @@
+use crate::{Doc, DocKey, Item, KeyMap, Refused, Status, What};
+use kv_edge::{Bytes, Copied, NoMemory};
+use std::alloc::Global;
+use std::test::Fail;
+
+fn key(alloc: Global, collection: u32, key: &[u8]) -> Result<DocKey, NoMemory> {
+    let key = Bytes::from_slice(alloc, key)?;
+    Ok(DocKey { collection, key })
+}
+
+fn doc(alloc: Global) -> Result<Doc, NoMemory> {
+    let value = Bytes::from_slice(alloc, b"{}")?;
+    let xattrs = Bytes::from_slice(alloc, &[0, 0, 0, 0])?;
+    Ok(Doc {
+        value,
+        xattrs,
+        flags: 0xcafe,
+        expiry: 7,
+        cas: 11,
+        seqno: 13,
+        json: true,
+    })
+}
+
+#[test]
+fn a_copy_has_each_field(rt: HostRuntime) -> Result<(), Fail> {
+    let alloc = rt.alloc();
+    let copied = doc(alloc)?.copy(alloc)?;
+    assert_eq!(rt; copied.value.as_slice(), b"{}".as_slice());
+    assert_eq!(rt; copied.xattrs.as_slice(), [0, 0, 0, 0].as_slice());
+    assert_eq!(rt; (copied.flags, copied.expiry), (0xcafe, 7));
+    assert_eq!(rt; (copied.cas, copied.seqno, copied.json), (11, 13, true));
+
+    let put = Item {
+        key: key(alloc, 9, b"a")?,
+        seqno: 13,
+        what: What::Put(copied),
+    };
+    assert_eq!(rt; put.copy(alloc)?, put);
+    let gone = Item {
+        key: key(alloc, 9, b"a")?,
+        seqno: 14,
+        what: What::Remove(17),
+    };
+    let gone_again = gone.copy(alloc)?;
+    assert_eq!(rt; gone_again.seqno, 14);
+    assert_eq!(rt; gone_again.what, What::Remove(17));
+    assert_ne!(rt; gone_again, put);
+    Ok(())
+}
+
+#[test]
+fn keys_are_ordered_by_collection_and_then_by_bytes(rt: HostRuntime) -> Result<(), Fail> {
+    let alloc = rt.alloc();
+    let ascending = [
+        key(alloc, 0, b"a")?,
+        key(alloc, 0, b"a\x00")?,
+        key(alloc, 0, b"b")?,
+        key(alloc, 8, b"")?,
+        key(alloc, 8, b"a")?,
+        key(alloc, 0xffff_ffff, b"\xff")?,
+    ];
+    for i in 1..ascending.len() {
+        assert!(rt; ascending[i - 1].lt(&ascending[i]), "at {i}");
+    }
+    Ok(())
+}
+
+#[test]
+fn a_map_has_what_was_inserted_last_and_not_what_was_removed(rt: HostRuntime) -> Result<(), Fail> {
+    let alloc = rt.alloc();
+    let mut map = KeyMap::<u8>::new(alloc);
+    let here = key(alloc, 0, b"a")?;
+    let there = key(alloc, 8, b"a")?;
+    assert_eq!(rt; map.insert(here.copy(alloc)?, 1)?, None);
+    assert_eq!(rt; map.insert(there.copy(alloc)?, 2)?, None);
+    assert_eq!(rt; map.insert(here.copy(alloc)?, 3)?, Some(1));
+    assert_eq!(rt; map.get(&here).copied(), Some(3));
+    assert_eq!(rt; map.get(&there).copied(), Some(2));
+    assert_eq!(rt; map.remove(&here), Some(3));
+    assert_eq!(rt; map.remove(&here), None);
+    assert!(rt; !map.contains_key(&here));
+    assert!(rt; map.contains_key(&there));
+    Ok(())
+}
+
+#[test]
+fn want_of_memory_is_a_refusal_of_its_own(rt: HostRuntime) {
+    assert_eq!(rt; Refused::from(NoMemory), Refused::NoMemory);
+    assert_ne!(rt; Refused::NoMemory, Refused::Status(Status::ENOMEM));
+}
