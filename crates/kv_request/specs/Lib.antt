@@ -1,0 +1,3 @@
+pub mod Opcodes
+pub mod Tables
+pub mod Reading
