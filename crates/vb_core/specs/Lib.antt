@@ -1,0 +1,5 @@
+pub mod Log
+pub mod Documents
+pub mod Step
+pub mod Runs
+pub mod Changing

@@ -1,0 +1,57 @@
+-- Whole runs of requests, for laws in the words of those who use documents.
+use Rattle.std.specs.Prelude.{◌≡◌, ◌≢◌, ℕ, List, [], ◌∷◌, None, Some}
+use Rattle.doc_model.specs.declared.key.DocKey.{DocKey}
+use Rattle.doc_model.specs.declared.status.TheConstants.Status as status
+use Rattle.kv_request.specs.declared.request.Request.{Request}
+use Rattle.kv_request.specs.declared.request.Body.{Body}
+use Rattle.kv_request.specs.declared.request.Body.TheVariants as bodies
+use Rattle.kv_request.specs.declared.request.Mode.TheVariants as modes
+use Rattle.kv_request.specs.declared.reply.Reply.{Reply}
+use Rattle.vb_core.specs.declared.vb.TheConstants.{VBUCKET}
+use Rattle.vb_core.specs.Step.{Copy, after}
+
+-- a request and the moment at which it comes
+pub record Event : Type 0 where
+  pub request : Request
+  pub now : ℕ
+
+-- the vbucket after these requests, the first of them first
+abbrev pub after_all : Copy → List Event → Copy
+after_all copy [] = copy
+after_all copy (e ∷ es) = after_all (after copy e.request e.now) es
+
+-- a request that the vbucket serves, and that takes any document
+pub record IsUnconditional (request : Request) : Type 0 where
+  pub level : request.durability ≡ None
+  pub ours : request.vbucket ≡ VBUCKET
+  pub any : request.cas ≡ 0
+
+-- a Get of the key
+pub record IsGet (request : Request) (key : DocKey) : Type 0 where
+  pub body : request.body ≡ bodies.Get key
+  pub unconditional : IsUnconditional request
+
+-- a Set of the key to a value with flags
+pub record IsSet (request : Request) (key : DocKey) (flags : ℕ) (value : List ℕ) : Type 0 where
+  pub stored : (expiry : ℕ) × (request.body ≡ bodies.Store key modes.Set flags expiry value)
+  pub unconditional : IsUnconditional request
+
+-- a Delete of the key
+pub record IsDelete (request : Request) (key : DocKey) : Type 0 where
+  pub body : request.body ≡ bodies.Delete key
+  pub unconditional : IsUnconditional request
+
+-- A request that stores or deletes a document of another key, or none.
+abbrev pub LeavesBody : DocKey → Body → Type 0
+LeavesBody key (bodies.Get other) = Unit {0}
+LeavesBody key (bodies.Store other mode flags expiry value) = other ≢ key
+LeavesBody key (bodies.Delete other) = other ≢ key
+
+abbrev pub Leaves : DocKey → Event → Type 0
+Leaves key e = LeavesBody key e.request.body
+
+-- a reply that carries this value with these flags
+pub record Carries (reply : Reply) (flags : ℕ) (value : List ℕ) : Type 0 where
+  pub success : reply.status ≡ status.SUCCESS
+  pub flags_told : reply.flags ≡ Some flags
+  pub value_told : reply.value ≡ value
