@@ -1,0 +1,4 @@
+pub mod Pipe
+pub mod Outcomes
+pub mod Statuses
+pub mod Progress
