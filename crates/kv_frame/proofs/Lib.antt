@@ -3,3 +3,4 @@ pub mod FrameLaws
 pub mod HeaderLaws
 pub mod Kept
 pub mod Unique
+pub mod Growing

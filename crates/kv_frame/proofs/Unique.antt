@@ -195,7 +195,7 @@ section_cut bytes f rest e =
     let behind = behind_frame bytes f rest e ∙ append_assoc (section f.framing) parts rest in
     ap (take (length (section f.framing))) behind ∙ take_at (section f.framing) (parts ++ rest) (length (section f.framing)) refl
 
-not_lacking : (side : Side) (bytes : List ℕ) (f : Frame) (rest : List ℕ) (n : ℕ) → IsFrame side f (spelling f) → bytes ≡ spelling f ++ rest → Lacks side bytes n → ⊥
+pub not_lacking : (side : Side) (bytes : List ℕ) (f : Frame) (rest : List ℕ) (n : ℕ) → IsFrame side f (spelling f) → bytes ≡ spelling f ++ rest → Lacks side bytes n → ⊥
 not_lacking side bytes f rest n is e (inl few) =
     omega (arith, few.0, few.1, ap (λ (l : List ℕ). length l) e, length-append (spelling f) rest, length-spelling f)
 not_lacking side bytes f rest n is e (inr (m, good, some, sum)) =
@@ -240,7 +240,7 @@ judges_only side bytes (judged.Bad place fault) f rest is e bad = absurd (not_ba
 
 -- ---- one thing is told
 
-begun : (side : Side) (bytes : List ℕ) (f : Frame) (used : ℕ) → BeginsWith side bytes f used → IsFrame side f (spelling f) × (bytes ≡ spelling f ++ drop used bytes)
+pub begun : (side : Side) (bytes : List ℕ) (f : Frame) (used : ℕ) → BeginsWith side bytes f used → IsFrame side f (spelling f) × (bytes ≡ spelling f ++ drop used bytes)
 begun side bytes f used (within, begins) =
     (record { of_side = begins.of_side; fits = begins.fits; spelled = refl }, sym (take-append-drop used bytes) ∙ ap (λ (l : List ℕ). l ++ drop used bytes) begins.spelled)
 
@@ -251,7 +251,7 @@ one_lack side bytes m n (inr (magic, good, some, sum)) (inl b) = absurd (omega (
 one_lack side bytes m n (inr (magic, good, some, sum)) (inr (other, fine, more, total)) = omega (arith, sum, total)
 
 -- a header without a fault, before its body is whole, has none
-lacking_not_bad : (side : Side) (bytes : List ℕ) (n place : ℕ) (fault : Fault) → Lacks side bytes n → IsBad side bytes place fault → ⊥
+pub lacking_not_bad : (side : Side) (bytes : List ℕ) (n place : ℕ) (fault : Fault) → Lacks side bytes n → IsBad side bytes place fault → ⊥
 lacking_not_bad side bytes n place faults.Magic (inl few) (long, p, none) = omega (arith, few.0, few.1, long)
 lacking_not_bad side bytes n place faults.Lengths (inl few) (long, p, m, has, lt) = omega (arith, few.0, few.1, long)
 lacking_not_bad side bytes n place faults.TooBig (inl few) (long, p, m, has, lt) = omega (arith, few.0, few.1, long)
