@@ -1,23 +1,26 @@
 -- The request that a frame is, or the status of the first check that it fails, and the frame that a reply is.
-use Rattle.std.specs.Prelude.{◌≡◌, ℕ, ◌+◌, ◌^◌, ◌<◌, ◌≤◌, nat_eq, nat_le, Bool, true, false, ◌&&◌, List, [], ◌∷◌, ◌++◌, length, take, drop, Option, Some, None, Result, Ok, Err, if◌then◌else◌}
+use Rattle.std.specs.Prelude.{◌≡◌, ℕ, ◌+◌, ◌*◌, ◌%◌, ◌^◌, ◌<◌, ◌≤◌, nat_eq, nat_le, Bool, true, false, ◌&&◌, ◌||◌, unwrap_or, find, count_by, slice_index, List, [], ◌∷◌, ◌++◌, length, take, drop, Option, Some, None, Result, Ok, Err, if◌then◌else◌}
 use Rattle.std.specs.Option.{option_map_or, IfSome}
-use Rattle.std.specs.Int.{w32, w64, from_be_bytes, to_be_bytes}
+use Rattle.std.specs.Int.{w16, w32, w64, from_be_bytes, to_be_bytes}
 use Rattle.kv_frame.specs.declared.frame.Frame.{Frame}
+use Rattle.kv_frame.specs.declared.frame.FrameExtra.{FrameExtra}
 use Rattle.kv_frame.specs.declared.frame.Magic.TheVariants as magics
 use Rattle.kv_frame.specs.Grammar.{Fits}
 use Rattle.doc_model.specs.declared.key.DocKey.{DocKey}
 use Rattle.doc_model.specs.declared.status.Status.{Status}
 use Rattle.doc_model.specs.declared.status.TheConstants.Status as status
-use Rattle.kv_request.specs.declared.reading.TheConstants.{KEY_LIMIT, VALUE_LIMIT}
+use Rattle.kv_request.specs.declared.reading.TheConstants.{KEY_LIMIT, VALUE_LIMIT, DURABILITY, USUAL_TIMEOUT}
 use Rattle.kv_request.specs.declared.opcode.Command.{Command}
 use Rattle.kv_request.specs.declared.opcode.Command.TheVariants as commands
 use Rattle.kv_request.specs.declared.request.Features.{Features}
+use Rattle.kv_request.specs.declared.request.Durability.{Durability}
 use Rattle.kv_request.specs.declared.request.Request.{Request}
 use Rattle.kv_request.specs.declared.request.Body.{Body}
 use Rattle.kv_request.specs.declared.request.Body.TheVariants as bodies
+use Rattle.kv_request.specs.declared.request.Mode.{Mode}
 use Rattle.kv_request.specs.declared.request.Mode.TheVariants as modes
 use Rattle.kv_request.specs.declared.reply.Reply.{Reply}
-use Rattle.kv_request.specs.Opcodes.{command_of, Presence, Must, MustNot, May, form_of}
+use Rattle.kv_request.specs.Opcodes.{command_of, is_of_streams, is_unsent, Presence, Must, MustNot, May, form_of, names_document, takes_level}
 
 -- whether a part of this many bytes is there as it has to be
 abbrev pub is_present : Presence → ℕ → Bool
@@ -36,20 +39,73 @@ has_form frame command =
 abbrev pub word_at : ℕ → List ℕ → ℕ
 word_at offset extras = from_be_bytes w32 (take 4 (drop offset extras))
 
--- whether a document that is to be stored has no expiry
-abbrev pub has_no_expiry : Frame → Command → Bool
-has_no_expiry frame commands.Get = true
-has_no_expiry frame commands.Set = nat_eq (word_at 4 frame.extras) 0
-has_no_expiry frame commands.Delete = true
+-- the number that eight bytes of the extras are
+abbrev pub long_at : ℕ → List ℕ → ℕ
+long_at offset extras = from_be_bytes w64 (take 8 (drop offset extras))
+
+-- whether a framing extra asks for a level of durability
+abbrev pub asks_level : FrameExtra → Bool
+asks_level e = nat_eq e.id DURABILITY
+
+-- the framing extra that asks for a level of durability, the first where there are several
+abbrev pub level_extra : Frame → Option FrameExtra
+level_extra frame = find asks_level frame.framing
+
+-- how many framing extras ask for a level
+abbrev pub level_count : Frame → ℕ
+level_count frame = count_by asks_level frame.framing
+
+-- whether no level is asked for, or the command takes one and it stands alone or with a timeout
+abbrev pub is_level_form : Command → Option FrameExtra → Bool
+is_level_form command None = true
+is_level_form command (Some e) = takes_level command && (nat_eq (length e.body) 1 || nat_eq (length e.body) 3)
+
+-- the timeout in milliseconds, which where it is left out is the usual one
+abbrev pub timeout_of : List ℕ → ℕ
+timeout_of body = if nat_eq (length body) 3 then from_be_bytes w16 (take 2 (drop 1 body)) else USUAL_TIMEOUT
+
+-- whether the timeout isn't 0, where a level is asked for
+abbrev pub has_timeout : Option FrameExtra → Bool
+has_timeout None = true
+has_timeout (Some e) = nat_le 1 (timeout_of e.body)
+
+-- whether the level is one from 1 to 3, where one is asked for
+abbrev pub has_level : Option FrameExtra → Bool
+has_level None = true
+has_level (Some e) = nat_le 1 (slice_index e.body 0) && nat_le (slice_index e.body 0) 3
+
+-- the durability that is asked for
+abbrev pub durability_of : Option FrameExtra → Option Durability
+durability_of None = None
+durability_of (Some e) = Some (record { level = slice_index e.body 0; timeout = timeout_of e.body })
+
+-- whether a value is a list of numbers of two bytes each, where it has to be one
+abbrev pub is_even : Command → ℕ → Bool
+is_even commands.Hello size = nat_eq (size % 2) 0
+is_even command size = true
+
+-- whether a document's key is no longer than it may be
+abbrev pub is_key : Command → ℕ → Bool
+is_key command size = if names_document command then nat_le size KEY_LIMIT else true
+
+-- whether the command takes this CAS: an Add, which finds no document, takes none but 0
+abbrev pub is_cas_taken : Command → ℕ → Bool
+is_cas_taken commands.Add cas = nat_eq cas 0
+is_cas_taken command cas = true
 
 -- the checks of a request's frame in their order, each with the status of a frame that fails it
 abbrev pub checks : Frame → Command → List (Bool × Status)
 checks frame command =
     (nat_le frame.datatype 1, status.EINVAL)
+    ∷ (nat_le (level_count frame) 1, status.EINVAL)
+    ∷ (is_level_form command (level_extra frame), status.EINVAL)
+    ∷ (has_timeout (level_extra frame), status.EINVAL)
+    ∷ (has_level (level_extra frame), status.DURABILITY_INVALID_LEVEL)
     ∷ (has_form frame command, status.EINVAL)
-    ∷ (nat_le (length frame.key) KEY_LIMIT, status.EINVAL)
+    ∷ (is_even command (length frame.value), status.EINVAL)
+    ∷ (is_key command (length frame.key), status.EINVAL)
     ∷ (nat_le (length frame.value) VALUE_LIMIT, status.E2BIG)
-    ∷ (has_no_expiry frame command, status.NOT_SUPPORTED)
+    ∷ (is_cas_taken command frame.cas, status.EINVAL)
     ∷ []
 
 -- the status of the first check that fails
@@ -61,15 +117,57 @@ first_failing (check ∷ others) = if check.0 then first_failing others else Som
 abbrev pub key_of : Frame → DocKey
 key_of frame = record { collection = 0; key = frame.key }
 
+-- the numbers of two bytes each that bytes are
+abbrev pub pairs_of : List ℕ → List ℕ
+pairs_of [] = []
+pairs_of (last ∷ []) = []
+pairs_of (high ∷ low ∷ others) = (256 * high + low) ∷ pairs_of others
+
+-- a document to store: extras are flags and expiry
+abbrev pub stored : Frame → Mode → Body
+stored frame mode = bodies.Store (key_of frame) mode (word_at 0 frame.extras) (word_at 4 frame.extras) frame.value
+
+-- a number to count: extras are delta, initial value and expiry
+abbrev pub counted : Frame → Bool → Body
+counted frame up = bodies.Count (key_of frame) up (long_at 0 frame.extras) (long_at 8 frame.extras) (word_at 16 frame.extras)
+
+-- bytes to add to a value
+abbrev pub joined : Frame → Bool → Body
+joined frame front = bodies.Join (key_of frame) front frame.value
+
+-- a document to give an expiry: extras are the expiry
+abbrev pub touched : Frame → Bool → Body
+touched frame fetch = bodies.Touch (key_of frame) (word_at 0 frame.extras) fetch
+
 -- what the request of a frame asks for
 abbrev pub body_of : Frame → Command → Body
 body_of frame commands.Get = bodies.Get (key_of frame)
-body_of frame commands.Set = bodies.Store (key_of frame) modes.Set (word_at 0 frame.extras) (word_at 4 frame.extras) frame.value
+body_of frame commands.GetKey = bodies.Get (key_of frame)
+body_of frame commands.Set = stored frame modes.Set
+body_of frame commands.Add = stored frame modes.Add
+body_of frame commands.Replace = stored frame modes.Replace
 body_of frame commands.Delete = bodies.Delete (key_of frame)
+body_of frame commands.Increment = counted frame true
+body_of frame commands.Decrement = counted frame false
+body_of frame commands.Append = joined frame false
+body_of frame commands.Prepend = joined frame true
+body_of frame commands.Touch = touched frame false
+body_of frame commands.GetAndTouch = touched frame true
+body_of frame commands.Quit = bodies.Quit
+body_of frame commands.Noop = bodies.Noop
+body_of frame commands.Version = bodies.Version
+body_of frame commands.Hello = bodies.Hello (pairs_of frame.value)
 
 -- the request of a frame that passes every check
 abbrev pub request_of : Frame → Command → Request
-request_of frame command = record { opcode = frame.opcode; opaque = frame.opaque; cas = frame.cas; vbucket = frame.word; durability = None; body = body_of frame command }
+request_of frame command = record {
+  opcode = frame.opcode;
+  opaque = frame.opaque;
+  cas = frame.cas;
+  vbucket = frame.word;
+  durability = durability_of (level_extra frame);
+  body = body_of frame command;
+}
 
 -- the request that a frame with a known opcode is, or why it is none
 abbrev pub checked : Frame → Command → Result Request Status
@@ -77,7 +175,9 @@ checked frame command = option_map_or (λ failing. Err failing) (first_failing (
 
 -- the request that a frame is, or the status of the first check that it fails
 abbrev pub request : Features → Frame → Result Request Status
-request features frame = option_map_or (checked frame) (command_of frame.opcode) (Err status.UNKNOWN_COMMAND)
+request features frame =
+    if is_of_streams frame.opcode then Err status.NOT_SUPPORTED
+    else option_map_or (checked frame) (command_of frame.opcode) (Err status.UNKNOWN_COMMAND)
 
 -- four bytes of flags, where there are flags
 abbrev pub flags_bytes : Option ℕ → List ℕ
@@ -110,6 +210,10 @@ frame features reply = record {
   value = reply.value;
 }
 
+-- the frame of a reply, unless its opcode leaves this status unsent
+abbrev pub sent : Features → Reply → Option Frame
+sent features reply = if is_unsent reply.opcode reply.status then None else Some (frame features reply)
+
 -- a reply whose frame has a spelling, whatever was granted
 abbrev pub IsReply : Reply → Type 0
 IsReply reply = (features : Features) → Fits (frame features reply)
@@ -132,17 +236,35 @@ refused opcode opaque code = record { opcode = opcode; opaque = opaque; status =
 abbrev pub IsRequest : Request → Type 0
 IsRequest made = (features : Features) × (f : Frame) × Fits f × (request features f ≡ Ok made)
 
--- the key that a request names
+-- the key that a request names, where it is a document's
 abbrev pub key_named : Body → Option DocKey
+key_named (bodies.Hello wanted) = None
+key_named bodies.Noop = None
+key_named bodies.Version = None
+key_named bodies.Quit = None
 key_named (bodies.Get key) = Some key
 key_named (bodies.Store key mode flags expiry value) = Some key
 key_named (bodies.Delete key) = Some key
+key_named (bodies.Count key up delta initial expiry) = Some key
+key_named (bodies.Join key front value) = Some key
+key_named (bodies.Touch key expiry fetch) = Some key
+
+-- the document's key that a request names, and an empty one where it names none
+abbrev pub document_key : Body → DocKey
+document_key body = unwrap_or (key_named body) (record { collection = 0; key = [] })
 
 -- the value that a request brings
 abbrev pub value_brought : Body → List ℕ
+value_brought (bodies.Hello wanted) = []
+value_brought bodies.Noop = []
+value_brought bodies.Version = []
+value_brought bodies.Quit = []
 value_brought (bodies.Get key) = []
 value_brought (bodies.Store key mode flags expiry value) = value
 value_brought (bodies.Delete key) = []
+value_brought (bodies.Count key up delta initial expiry) = []
+value_brought (bodies.Join key front value) = value
+value_brought (bodies.Touch key expiry fetch) = []
 
 -- a key that a document may have
 pub record IsSmallKey (key : DocKey) : Type 0 where

@@ -5,8 +5,12 @@ ghost use Rattle.kv_request.specs.declared.request.Request.{Request};
 ghost use Rattle.kv_request.specs.Tables.{IsReply, IsSmallReply, IsRequest, IsSmallRequest};
 ghost use Rattle.std.specs.Prelude.{◌≡◌};
 
-use crate::opcode::{DELETE, GET, SET};
-use crate::reading::{KEY_LIMIT, VALUE_LIMIT};
+use crate::opcode::{
+    ADD, ADDQ, APPEND, APPENDQ, DECREMENT, DECREMENTQ, DELETE, DELETEQ, FIRST_STREAM, GAT, GET,
+    GETK, GETKQ, GETQ, HELLO, INCREMENT, INCREMENTQ, LAST_STREAM, NOOP, PREPEND, PREPENDQ, QUIT,
+    QUITQ, REPLACE, REPLACEQ, SET, SETQ, TOUCH, VERSION,
+};
+use crate::reading::{DURABILITY, KEY_LIMIT, USUAL_TIMEOUT, VALUE_LIMIT};
 
 /// A reply whose numbers fit and whose parts are short has a frame with a spelling, whatever was granted: the
 /// longest such frame is below the greatest body.
@@ -24,7 +28,35 @@ pub fn requests_are_small()
 pub fn request_numbers()
     ensures key_limit { KEY_LIMIT ≡ 250 }
     ensures value_limit { VALUE_LIMIT ≡ 20971520 }
+    ensures durability { DURABILITY ≡ 1 }
+    ensures usual_timeout { USUAL_TIMEOUT ≡ 30000 }
     ensures get { GET ≡ 0 }
     ensures set { SET ≡ 1 }
+    ensures add { ADD ≡ 2 }
+    ensures replace { REPLACE ≡ 3 }
     ensures delete { DELETE ≡ 4 }
+    ensures increment { INCREMENT ≡ 5 }
+    ensures decrement { DECREMENT ≡ 6 }
+    ensures quit { QUIT ≡ 7 }
+    ensures getq { GETQ ≡ 9 }
+    ensures noop { NOOP ≡ 10 }
+    ensures version { VERSION ≡ 11 }
+    ensures getk { GETK ≡ 12 }
+    ensures getkq { GETKQ ≡ 13 }
+    ensures append { APPEND ≡ 14 }
+    ensures prepend { PREPEND ≡ 15 }
+    ensures setq { SETQ ≡ 17 }
+    ensures addq { ADDQ ≡ 18 }
+    ensures replaceq { REPLACEQ ≡ 19 }
+    ensures deleteq { DELETEQ ≡ 20 }
+    ensures incrementq { INCREMENTQ ≡ 21 }
+    ensures decrementq { DECREMENTQ ≡ 22 }
+    ensures quitq { QUITQ ≡ 23 }
+    ensures appendq { APPENDQ ≡ 25 }
+    ensures prependq { PREPENDQ ≡ 26 }
+    ensures touch { TOUCH ≡ 28 }
+    ensures gat { GAT ≡ 29 }
+    ensures hello { HELLO ≡ 31 }
+    ensures first_stream { FIRST_STREAM ≡ 80 }
+    ensures last_stream { LAST_STREAM ≡ 111 }
 {}

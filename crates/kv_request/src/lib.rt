@@ -3,30 +3,44 @@
 //!
 //! A request's frame is checked in this order, and the first check that fails is the answer's status:
 //!
-//! 1. The opcode is known, else UnknownCommand.
+//! 1. The opcode is none of the streams between nodes, 50 to 6f, else NotSupported, and it is known, else UnknownCommand.
 //! 2. The datatype is 00 or 01, else Einval.
-//! 3. Extras, key and value are there as the opcode asks, else Einval.
-//! 4. The key has 1 to 250 bytes, else Einval.
-//! 5. The value has at most 20,971,520 bytes, else E2big.
-//! 6. A document that is to be stored has no expiry, which isn't served yet, else NotSupported.
+//! 3. Of the framing extras those of id 1 ask for a level of durability: there is at most one, it has one byte or three,
+//!    and the opcode takes it, else Einval. Its timeout, the last two bytes, isn't 0, else Einval. Its level, the first
+//!    byte, is 1 to 3, else DurabilityInvalidLevel. Other framing extras are skipped.
+//! 4. Extras, key and value are there as the opcode asks, and the value of a Hello has an even length, else Einval.
+//! 5. The key of a document has 1 to 250 bytes, else Einval.
+//! 6. The value has at most 20,971,520 bytes, else E2big.
+//! 7. An Add has the CAS 0, else Einval.
 //!
-//! | Opcode | Name | Extras | Key | Value | Reply |
-//! |---|---|---|---|---|---|
-//! | 00 | Get | none | yes | no | extras flags u32, value, CAS |
-//! | 01 | Set | flags u32, expiry u32 | yes | may be | CAS |
-//! | 04 | Delete | none | yes | no | CAS of the deletion |
+//! | Opcode (quiet) | Name | Extras | Key | Value | Level | Reply |
+//! |---|---|---|---|---|---|---|
+//! | 00 (09) | Get | none | yes | no | | extras flags u32, value, CAS |
+//! | 0c (0d) | GetK | none | yes | no | | as Get, with the key |
+//! | 01 (11), 02 (12), 03 (13) | Set, Add, Replace | flags u32, expiry u32 | yes | may be | yes | token, CAS |
+//! | 04 (14) | Delete | none | yes | no | yes | token, CAS of the deletion |
+//! | 05 (15), 06 (16) | Increment, Decrement | delta u64, initial value u64, expiry u32 | yes | no | yes | token, CAS, value u64 |
+//! | 0e (19), 0f (1a) | Append, Prepend | none | yes | may be | yes | token, CAS |
+//! | 1c | Touch | expiry u32 | yes | no | | CAS |
+//! | 1d | Get and touch | expiry u32 | yes | no | | as Get, with the CAS of the change |
+//! | 07 (17) | Quit | none | no | no | | empty |
+//! | 0a | Noop | none | no | no | | empty |
+//! | 0b | Version | none | no | no | | value: the version |
+//! | 1f | Hello | none | may be | may be | | value: the features granted |
+//!
+//! A quiet Get or GetK leaves a miss unsent, every other quiet opcode a success.
 #![tactic(auto)]
 
 mod laws;
-mod opcode;
+pub mod opcode;
 mod reading;
 mod reply;
 mod request;
 mod writing;
 
 pub use laws::{request_numbers, requests_are_small, small_replies};
-pub use opcode::{Command, DELETE, GET, SET};
-pub use reading::{KEY_LIMIT, VALUE_LIMIT, read_request};
+pub use opcode::Command;
+pub use reading::{DURABILITY, KEY_LIMIT, USUAL_TIMEOUT, VALUE_LIMIT, read_request};
 pub use reply::{Reply, refusal};
 pub use request::{Body, Durability, Features, Mode, Request};
 pub use writing::write_reply;

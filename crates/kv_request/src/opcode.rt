@@ -1,4 +1,7 @@
 ghost use Rattle.std.specs.Prelude.{◌≡◌};
+ghost use Rattle.kv_request.specs.Opcodes.{is_quiet, is_unsent};
+
+use doc_model::Status;
 
 /// Get: what a key has.
 pub const GET: u8 = 0x00;
@@ -6,32 +9,206 @@ pub const GET: u8 = 0x00;
 /// Set: stores a document, whatever is there.
 pub const SET: u8 = 0x01;
 
+/// Add: stores a document where none is.
+pub const ADD: u8 = 0x02;
+
+/// Replace: stores a document where one is.
+pub const REPLACE: u8 = 0x03;
+
 /// Delete: deletes a document.
 pub const DELETE: u8 = 0x04;
 
-/// What a request asks for.
+/// Increment: counts a number up.
+pub const INCREMENT: u8 = 0x05;
+
+/// Decrement: counts a number down.
+pub const DECREMENT: u8 = 0x06;
+
+/// Quit: ends the connection.
+pub const QUIT: u8 = 0x07;
+
+/// A Get that says nothing of a miss.
+pub const GETQ: u8 = 0x09;
+
+/// Noop: a reply and nothing else.
+pub const NOOP: u8 = 0x0a;
+
+/// Version: the version that is served.
+pub const VERSION: u8 = 0x0b;
+
+/// A Get whose reply has the key.
+pub const GETK: u8 = 0x0c;
+
+/// A Get whose reply has the key, and that says nothing of a miss.
+pub const GETKQ: u8 = 0x0d;
+
+/// Append: adds bytes behind a value.
+pub const APPEND: u8 = 0x0e;
+
+/// Prepend: adds bytes before a value.
+pub const PREPEND: u8 = 0x0f;
+
+/// A Set that says nothing of success.
+pub const SETQ: u8 = 0x11;
+
+/// An Add that says nothing of success.
+pub const ADDQ: u8 = 0x12;
+
+/// A Replace that says nothing of success.
+pub const REPLACEQ: u8 = 0x13;
+
+/// A Delete that says nothing of success.
+pub const DELETEQ: u8 = 0x14;
+
+/// An Increment that says nothing of success.
+pub const INCREMENTQ: u8 = 0x15;
+
+/// A Decrement that says nothing of success.
+pub const DECREMENTQ: u8 = 0x16;
+
+/// A Quit without a reply.
+pub const QUITQ: u8 = 0x17;
+
+/// An Append that says nothing of success.
+pub const APPENDQ: u8 = 0x19;
+
+/// A Prepend that says nothing of success.
+pub const PREPENDQ: u8 = 0x1a;
+
+/// Touch: gives a document another expiry.
+pub const TOUCH: u8 = 0x1c;
+
+/// Get and touch: gives a document another expiry, and answers as a Get.
+pub const GAT: u8 = 0x1d;
+
+/// Hello: asks for features.
+pub const HELLO: u8 = 0x1f;
+
+/// The first and the last opcode of streams between nodes.
+pub const FIRST_STREAM: u8 = 0x50;
+
+pub const LAST_STREAM: u8 = 0x6f;
+
+/// What a request asks for, whether it is quiet or not.
 #[derive(Clone, Copy, Debug, PartialEq, Eq)]
 pub enum Command {
-    /// What a key has.
     Get,
-    /// Stores a document, whatever is there.
+    /// A Get whose reply has the key.
+    GetKey,
     Set,
-    /// Deletes a document.
+    Add,
+    Replace,
     Delete,
+    Increment,
+    Decrement,
+    Append,
+    Prepend,
+    Touch,
+    GetAndTouch,
+    Quit,
+    Noop,
+    Version,
+    Hello,
 }
 
 impl Command {
-    ghost use Rattle.kv_request.specs.Opcodes.{command_of};
+    ghost use Rattle.kv_request.specs.Opcodes.{command_of, names_document, takes_level, tells_key, unsent_status};
 
     /// The command of an opcode that is served.
     pub fn of(opcode: u8) -> Option<Command>
         ensures { result ≡ command_of opcode }
     {
         match opcode {
-            GET => Some(Command::Get),
-            SET => Some(Command::Set),
-            DELETE => Some(Command::Delete),
+            GET | GETQ => Some(Command::Get),
+            GETK | GETKQ => Some(Command::GetKey),
+            SET | SETQ => Some(Command::Set),
+            ADD | ADDQ => Some(Command::Add),
+            REPLACE | REPLACEQ => Some(Command::Replace),
+            DELETE | DELETEQ => Some(Command::Delete),
+            INCREMENT | INCREMENTQ => Some(Command::Increment),
+            DECREMENT | DECREMENTQ => Some(Command::Decrement),
+            APPEND | APPENDQ => Some(Command::Append),
+            PREPEND | PREPENDQ => Some(Command::Prepend),
+            TOUCH => Some(Command::Touch),
+            GAT => Some(Command::GetAndTouch),
+            QUIT | QUITQ => Some(Command::Quit),
+            NOOP => Some(Command::Noop),
+            VERSION => Some(Command::Version),
+            HELLO => Some(Command::Hello),
             _ => None,
         }
+    }
+
+    /// Whether the key of a request is a document's.
+    pub fn names_document(self) -> bool
+        ensures { result ≡ names_document self }
+    {
+        !matches!(
+            self,
+            Command::Quit | Command::Noop | Command::Version | Command::Hello
+        )
+    }
+
+    /// Whether the reply tells the key.
+    pub fn tells_key(self) -> bool
+        ensures { result ≡ tells_key self }
+    {
+        self == Command::GetKey
+    }
+
+    /// Whether a request may ask for a level of durability.
+    pub fn takes_level(self) -> bool
+        ensures { result ≡ takes_level self }
+    {
+        matches!(
+            self,
+            Command::Set
+                | Command::Add
+                | Command::Replace
+                | Command::Delete
+                | Command::Increment
+                | Command::Decrement
+                | Command::Append
+                | Command::Prepend
+        )
+    }
+
+    /// The status that a quiet opcode leaves unsent.
+    pub fn unsent_status(self) -> Status
+        ensures { result ≡ unsent_status self }
+    {
+        match self {
+            Command::Get | Command::GetKey => Status::KEY_ENOENT,
+            _ => Status::SUCCESS,
+        }
+    }
+}
+
+/// Whether an opcode is quiet.
+pub fn is_quiet(opcode: u8) -> bool
+    ensures { result ≡ is_quiet opcode }
+{
+    matches!(
+        opcode,
+        GETQ | GETKQ
+            | SETQ
+            | ADDQ
+            | REPLACEQ
+            | DELETEQ
+            | INCREMENTQ
+            | DECREMENTQ
+            | QUITQ
+            | APPENDQ
+            | PREPENDQ
+    )
+}
+
+/// Whether a reply of this opcode with this status is left unsent.
+pub fn is_unsent(opcode: u8, status: Status) -> bool
+    ensures { result ≡ is_unsent opcode status }
+{
+    match Command::of(opcode) {
+        Some(command) => is_quiet(opcode) && status == command.unsent_status(),
+        None => false,
     }
 }

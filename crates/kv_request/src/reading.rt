@@ -1,12 +1,13 @@
 ghost use Rattle.std.specs.Prelude.{◌≡◌, ◌+◌, ◌≤◌, true, None, length, IfOk};
+ghost use Rattle.std.specs.Option.{option_copied};
 ghost use Rattle.kv_request.specs.Reading.{Reads};
-ghost use Rattle.kv_request.specs.Tables.{has_form, has_no_expiry, word_at, checks, first_failing, key_of, body_of};
+ghost use Rattle.kv_request.specs.Tables.{has_form, is_cas_taken, word_at, long_at, level_extra, level_count, is_level_form, has_timeout, has_level, timeout_of, durability_of, is_even, is_key, checks, first_failing, key_of, stored, counted, joined, touched, pairs_of, body_of};
 
-use crate::opcode::Command;
-use crate::request::{Body, Features, Mode, Request};
+use crate::opcode::{Command, FIRST_STREAM, LAST_STREAM};
+use crate::request::{Body, Durability, Features, Mode, Request};
 use doc_model::{DocKey, Refused, Status};
-use kv_edge::{Copied, NoMemory};
-use kv_frame::Frame;
+use kv_edge::{Copied, NoMemory, Seq};
+use kv_frame::{Frame, FrameExtra};
 use std::alloc::Global;
 
 /// How many bytes a key has at most.
@@ -15,6 +16,12 @@ pub const KEY_LIMIT: usize = 250;
 /// How many bytes a value has at most.
 pub const VALUE_LIMIT: usize = 20_971_520;
 
+/// The id of the framing extra that asks for a level of durability.
+pub const DURABILITY: u16 = 1;
+
+/// The timeout of a durable write that names none, in milliseconds.
+pub const USUAL_TIMEOUT: u16 = 30_000;
+
 /// The datatype of JSON text, which is the greatest that a request may have. The one below it says nothing.
 pub(crate) const JSON: u8 = 1;
 
@@ -22,6 +29,9 @@ pub(crate) const JSON: u8 = 1;
 pub fn read_request(alloc: Global, frame: &Frame, features: &Features) -> Result<Request, Refused>
     ensures { Reads frame.now features.now result }
 {
+    if FIRST_STREAM <= frame.opcode && frame.opcode <= LAST_STREAM {
+        return Err(Refused::Status(Status::NOT_SUPPORTED));
+    }
     let Some(command) = Command::of(frame.opcode) else {
         return Err(Refused::Status(Status::UNKNOWN_COMMAND));
     };
@@ -34,7 +44,7 @@ pub fn read_request(alloc: Global, frame: &Frame, features: &Features) -> Result
         opaque: frame.opaque,
         cas: frame.cas,
         vbucket: frame.word,
-        durability: None,
+        durability: durability(find_level(frame)),
         body,
     })
 }
@@ -43,23 +53,116 @@ pub fn read_request(alloc: Global, frame: &Frame, features: &Features) -> Result
 fn check(frame: &Frame, command: Command) -> Option<Status>
     ensures first { result ≡ first_failing (checks frame.now command) }
     ensures formed { result ≡ None → has_form frame.now command ≡ true }
+    ensures level { result ≡ None → is_level_form command (level_extra frame.now) ≡ true }
 {
     if frame.datatype > JSON {
         return Some(Status::EINVAL);
     }
-    if !has_form(frame, command) {
+    let level = find_level(frame);
+    if count_levels(frame) > 1 || !is_level_form(command, level) || !has_timeout(level) {
         return Some(Status::EINVAL);
     }
-    if frame.key.len() > KEY_LIMIT {
+    if !has_level(level) {
+        return Some(Status::DURABILITY_INVALID_LEVEL);
+    }
+    if !has_form(frame, command) || !is_even(command, frame.value.len()) {
+        return Some(Status::EINVAL);
+    }
+    if !is_key(command, frame.key.len()) {
         return Some(Status::EINVAL);
     }
     if frame.value.len() > VALUE_LIMIT {
         return Some(Status::E2BIG);
     }
-    if !has_no_expiry(frame, command) {
-        return Some(Status::NOT_SUPPORTED);
+    if !is_cas_taken(command, frame.cas) {
+        return Some(Status::EINVAL);
     }
     None
+}
+
+/// The framing extra that asks for a level of durability, the first where there are several.
+fn find_level(frame: &Frame) -> Option<&FrameExtra>
+    ensures { option_copied result ≡ level_extra frame.now }
+{
+    frame
+        .framing
+        .as_slice()
+        .iter()
+        .find(|extra| extra.id == DURABILITY)
+}
+
+/// How many framing extras ask for a level of durability.
+fn count_levels(frame: &Frame) -> usize
+    ensures { result ≡ level_count frame.now }
+{
+    frame
+        .framing
+        .as_slice()
+        .iter()
+        .filter(|extra| extra.id == DURABILITY)
+        .count()
+}
+
+/// Whether no level is asked for, or the command takes one and it stands alone or with a timeout.
+fn is_level_form(command: Command, level: Option<&FrameExtra>) -> bool
+    ensures { result ≡ is_level_form command (option_copied level.entry) }
+{
+    match level {
+        None => true,
+        Some(extra) => {
+            let size = extra.body.len();
+            command.takes_level() && (size == 1 || size == 3)
+        }
+    }
+}
+
+/// Whether the timeout isn't 0, where a level is asked for.
+fn has_timeout(level: Option<&FrameExtra>) -> bool
+    ensures { result ≡ has_timeout (option_copied level.entry) }
+{
+    match level {
+        None => true,
+        Some(extra) => timeout(extra.body.as_slice()) > 0,
+    }
+}
+
+/// Whether the level is one from 1 to 3, where one is asked for.
+fn has_level(level: Option<&FrameExtra>) -> bool
+    ensures { result ≡ has_level (option_copied level.entry) }
+{
+    match level {
+        None => true,
+        Some(extra) => match extra.body.as_slice() {
+            [first, ..] => 1 <= *first && *first <= 3,
+            [] => false,
+        },
+    }
+}
+
+/// The timeout in milliseconds, which where it is left out is the usual one.
+fn timeout(body: &[u8]) -> u16
+    ensures { result ≡ timeout_of body.now }
+{
+    match body {
+        [_, high, low] => u16::from_be_bytes([*high, *low]),
+        _ => USUAL_TIMEOUT,
+    }
+}
+
+/// The durability that is asked for.
+fn durability(level: Option<&FrameExtra>) -> Option<Durability>
+    ensures { result ≡ durability_of (option_copied level.entry) }
+{
+    let extra = level?;
+    let body = extra.body.as_slice();
+    let level = match body {
+        [first, ..] => *first,
+        [] => 0,
+    };
+    Some(Durability {
+        level,
+        timeout: timeout(body),
+    })
 }
 
 /// Whether extras, key and value are there as the command asks.
@@ -70,22 +173,35 @@ fn has_form(frame: &Frame, command: Command) -> bool
     let key = frame.key.len();
     let value = frame.value.len();
     match command {
-        Command::Get => extras == 0 && key > 0 && value == 0,
-        Command::Set => extras == 8 && key > 0,
-        Command::Delete => extras == 0 && key > 0 && value == 0,
+        Command::Get | Command::GetKey | Command::Delete => extras == 0 && key > 0 && value == 0,
+        Command::Set | Command::Add | Command::Replace => extras == 8 && key > 0,
+        Command::Increment | Command::Decrement => extras == 20 && key > 0 && value == 0,
+        Command::Append | Command::Prepend => extras == 0 && key > 0,
+        Command::Touch | Command::GetAndTouch => extras == 4 && key > 0 && value == 0,
+        Command::Quit | Command::Noop | Command::Version => extras == 0 && key == 0 && value == 0,
+        Command::Hello => extras == 0,
     }
 }
 
-/// Whether a document that is to be stored has no expiry.
-fn has_no_expiry(frame: &Frame, command: Command) -> bool
-    requires { has_form frame.now command ≡ true }
-    ensures { result ≡ has_no_expiry frame.now command }
+/// Whether a value of this many bytes is a list of numbers of two bytes each, where it has to be one.
+fn is_even(command: Command, size: usize) -> bool
+    ensures { result ≡ is_even command size }
 {
-    match command {
-        Command::Get => true,
-        Command::Set => word_at(4, frame.extras.as_slice()) == 0,
-        Command::Delete => true,
-    }
+    command != Command::Hello || size % 2 == 0
+}
+
+/// Whether a document's key of this many bytes is no longer than it may be.
+fn is_key(command: Command, size: usize) -> bool
+    ensures { result ≡ is_key command size }
+{
+    !command.names_document() || size <= KEY_LIMIT
+}
+
+/// Whether the command takes this CAS: an Add, which finds no document, takes none but 0.
+fn is_cas_taken(command: Command, cas: u64) -> bool
+    ensures { result ≡ is_cas_taken command cas }
+{
+    command != Command::Add || cas == 0
 }
 
 /// What the request of a frame asks for, with a copy of the frame's key and value.
@@ -93,18 +209,93 @@ fn body(alloc: Global, frame: &Frame, command: Command) -> Result<Body, NoMemory
     requires { has_form frame.now command ≡ true }
     ensures { IfOk result (λ made. made ≡ body_of frame.now command) }
 {
-    let key = key_of(alloc, frame)?;
     match command {
-        Command::Get => Ok(Body::Get { key }),
-        Command::Set => Ok(Body::Store {
-            key,
-            mode: Mode::Set,
-            flags: word_at(0, frame.extras.as_slice()),
-            expiry: word_at(4, frame.extras.as_slice()),
-            value: frame.value.copy(alloc)?,
+        Command::Get | Command::GetKey => Ok(Body::Get {
+            key: key_of(alloc, frame)?,
         }),
-        Command::Delete => Ok(Body::Delete { key }),
+        Command::Set => store(alloc, frame, Mode::Set),
+        Command::Add => store(alloc, frame, Mode::Add),
+        Command::Replace => store(alloc, frame, Mode::Replace),
+        Command::Delete => Ok(Body::Delete {
+            key: key_of(alloc, frame)?,
+        }),
+        Command::Increment => count(alloc, frame, true),
+        Command::Decrement => count(alloc, frame, false),
+        Command::Append => join(alloc, frame, false),
+        Command::Prepend => join(alloc, frame, true),
+        Command::Touch => touch(alloc, frame, false),
+        Command::GetAndTouch => touch(alloc, frame, true),
+        Command::Quit => Ok(Body::Quit),
+        Command::Noop => Ok(Body::Noop),
+        Command::Version => Ok(Body::Version),
+        Command::Hello => Ok(Body::Hello {
+            wanted: pairs(alloc, frame.value.as_slice())?,
+        }),
     }
+}
+
+/// A document to store.
+fn store(alloc: Global, frame: &Frame, mode: Mode) -> Result<Body, NoMemory>
+    requires { 8 ≤ length frame.now.extras }
+    ensures { IfOk result (λ made. made ≡ stored frame.now mode) }
+{
+    Ok(Body::Store {
+        key: key_of(alloc, frame)?,
+        mode,
+        flags: word_at(0, frame.extras.as_slice()),
+        expiry: word_at(4, frame.extras.as_slice()),
+        value: frame.value.copy(alloc)?,
+    })
+}
+
+/// A number to count.
+fn count(alloc: Global, frame: &Frame, up: bool) -> Result<Body, NoMemory>
+    requires { 20 ≤ length frame.now.extras }
+    ensures { IfOk result (λ made. made ≡ counted frame.now up) }
+{
+    Ok(Body::Count {
+        key: key_of(alloc, frame)?,
+        up,
+        delta: long_at(0, frame.extras.as_slice()),
+        initial: long_at(8, frame.extras.as_slice()),
+        expiry: word_at(16, frame.extras.as_slice()),
+    })
+}
+
+/// Bytes to add to a value.
+fn join(alloc: Global, frame: &Frame, front: bool) -> Result<Body, NoMemory>
+    ensures { IfOk result (λ made. made ≡ joined frame.now front) }
+{
+    Ok(Body::Join {
+        key: key_of(alloc, frame)?,
+        front,
+        value: frame.value.copy(alloc)?,
+    })
+}
+
+/// A document to give an expiry.
+fn touch(alloc: Global, frame: &Frame, fetch: bool) -> Result<Body, NoMemory>
+    requires { 4 ≤ length frame.now.extras }
+    ensures { IfOk result (λ made. made ≡ touched frame.now fetch) }
+{
+    Ok(Body::Touch {
+        key: key_of(alloc, frame)?,
+        expiry: word_at(0, frame.extras.as_slice()),
+        fetch,
+    })
+}
+
+/// The numbers of two bytes each that the bytes are.
+fn pairs(alloc: Global, bytes: &[u8]) -> Result<Seq<u16>, NoMemory>
+    ensures { IfOk result (λ made. made ≡ pairs_of bytes.now) }
+{
+    let mut numbers = Vec::new(alloc);
+    let mut rest = bytes;
+    while let [high, low, others @ ..] = rest {
+        numbers.push(u16::from_be_bytes([*high, *low]))?;
+        rest = others;
+    }
+    Ok(Seq::from_vec(numbers))
 }
 
 /// The key that a frame names, of the collection that is there from the start.
@@ -123,4 +314,16 @@ fn word_at(offset: usize, extras: &[u8]) -> u32
     let (_, rest) = extras.split_at(offset);
     let (word, _) = rest.split_at(4);
     u32::from_be_bytes([word[0], word[1], word[2], word[3]])
+}
+
+/// The number that eight bytes of the extras are.
+fn long_at(offset: usize, extras: &[u8]) -> u64
+    requires { offset + 8 ≤ length extras.now }
+    ensures { result ≡ long_at offset extras.now }
+{
+    let (_, rest) = extras.split_at(offset);
+    let (word, _) = rest.split_at(8);
+    u64::from_be_bytes([
+        word[0], word[1], word[2], word[3], word[4], word[5], word[6], word[7],
+    ])
 }

@@ -1,7 +1,9 @@
-use crate::{Body, Features, Mode, Reply, Request, read_request, refusal, write_reply};
+ghost use Rattle.std.specs.Prelude.{◌≡◌, IfOk};
+
+use crate::{Body, Durability, Features, Mode, Reply, Request, read_request, refusal, write_reply};
 use doc_model::{DocKey, Refused, Status};
 use kv_edge::{Bytes, NoMemory, Seq};
-use kv_frame::{Frame, Magic};
+use kv_frame::{Frame, Magic, Side, Step, decode};
 use std::alloc::Global;
 use std::test::Fail;
 
@@ -17,94 +19,106 @@ const ALL_GRANTED: Features = Features {
     collections: true,
 };
 
-const NO_EXPIRY: [u8; 8] = [0, 0, 0, 0x2a, 0, 0, 0, 0];
+/// The bytes of hexadecimal digits. Blanks between them are for reading.
+fn hex(alloc: Global, text: &str) -> Result<Vec<u8>, Fail> {
+    let mut bytes = Vec::new(alloc);
+    let mut high = None;
+    for digit in text.bytes() {
+        let digit = match digit {
+            b'0'..=b'9' => digit - b'0',
+            b'a'..=b'f' => digit - b'a' + 10,
+            _ => continue,
+        };
+        match high {
+            None => high = Some(digit << 4),
+            Some(above) => {
+                bytes.push(above | digit)?;
+                high = None;
+            }
+        }
+    }
+    Ok(bytes)
+}
 
-const EXPIRY_ONE: [u8; 8] = [0, 0, 0, 0x2a, 0, 0, 0, 1];
+/// The frame that all of the bytes are.
+fn frame_of(alloc: Global, text: &str) -> Result<Frame, Fail> {
+    let bytes = hex(alloc, text)?;
+    match decode(alloc, Side::Requests, &bytes) {
+        Ok(Step::Whole(frame, used)) if used == bytes.len() => Ok(frame),
+        _ => Err("the bytes are no whole frame")?,
+    }
+}
 
-const LONGEST_KEY: [u8; 250] = [b'k'; 250];
-
-const KEY_TOO_LONG: [u8; 251] = [b'k'; 251];
-
-fn frame(
-    alloc: Global,
-    opcode: u8,
-    datatype: u8,
-    extras: &[u8],
-    key: &[u8],
-    value: Bytes,
-) -> Result<Frame, NoMemory> {
-    let extras = Bytes::from_slice(alloc, extras)?;
-    let key = Bytes::from_slice(alloc, key)?;
+/// A frame without a value, with this many bytes 00 as its extras and this many letters as its key.
+fn frame_with(alloc: Global, opcode: u8, extras: usize, key: usize) -> Result<Frame, NoMemory> {
     Ok(Frame {
         magic: Magic::Request,
         opcode,
-        datatype,
+        datatype: 0,
         word: 0,
         opaque: 1,
         cas: 0,
         framing: Seq::new(alloc),
-        extras,
-        key,
-        value,
+        extras: Bytes::from_vec(vec![in alloc; 0u8; extras]?),
+        key: Bytes::from_vec(vec![in alloc; b'k'; key]?),
+        value: Bytes::new(alloc),
     })
 }
 
-// The status that the frame is refused with, or nothing where a request is read.
-fn status_of(alloc: Global, frame: &Frame) -> Result<Option<u16>, NoMemory> {
+/// The status that a frame is refused with, and 0 where a request is read, with the durability that it asks for.
+fn outcome(alloc: Global, frame: &Frame) -> Result<(u16, Option<Durability>), NoMemory> {
     match read_request(alloc, frame, &NOTHING_GRANTED) {
-        Ok(_) => Ok(None),
-        Err(Refused::Status(status)) => Ok(Some(status.code)),
+        Ok(made) => Ok((0x0000, made.durability)),
+        Err(Refused::Status(status)) => Ok((status.code, None)),
         Err(Refused::NoMemory) => Err(NoMemory),
     }
 }
 
-// 80 00 0001 00 00 0000 00000001 deadbeef 0000000000000000 61
+fn key(alloc: Global, letters: &[u8]) -> Result<DocKey, NoMemory>
+    ensures { IfOk result (λ key. key.key ≡ letters.now) }
+{
+    Ok(DocKey {
+        collection: 0,
+        key: Bytes::from_slice(alloc, letters)?,
+    })
+}
+
 #[test]
-fn a_get_is_read(rt: HostRuntime) -> Result<(), Fail> {
+fn a_get_is_read_with_all_its_parts(rt: HostRuntime) -> Result<(), Fail> {
     let alloc = rt.alloc();
-    let mut get = frame(alloc, 0x00, 0, b"", b"a", Bytes::new(alloc))?;
-    get.opaque = 0xdeadbeef;
-    let key = Bytes::from_slice(alloc, b"a")?;
+    let text = "80 00 0001 00 00 0000 00000001 deadbeef 0000000000000000 61";
+    let get = frame_of(alloc, text)?;
     let wanted = Request {
         opcode: 0x00,
-        opaque: 0xdeadbeef,
+        opaque: 0xdead_beef,
         cas: 0,
         vbucket: 0,
         durability: None,
         body: Body::Get {
-            key: DocKey { collection: 0, key },
+            key: key(alloc, b"a")?,
         },
     };
     assert_eq!(rt; read_request(alloc, &get, &NOTHING_GRANTED)?, wanted);
     Ok(())
 }
 
-// 80 01 0001 08 00 0000 0000000b 00000001 0000000000000000 0000002a 00000000 61 6869
 #[test]
-fn a_set_is_read(rt: HostRuntime) -> Result<(), Fail> {
+fn a_quiet_set_is_read_with_all_its_parts(rt: HostRuntime) -> Result<(), Fail> {
     let alloc = rt.alloc();
-    let set = frame(
-        alloc,
-        0x01,
-        0,
-        &NO_EXPIRY,
-        b"a",
-        Bytes::from_slice(alloc, b"hi")?,
-    )?;
-    let key = Bytes::from_slice(alloc, b"a")?;
-    let value = Bytes::from_slice(alloc, b"hi")?;
+    let text = "80 11 0001 08 01 03ff 0000000b 00000001 0102030405060708 0000002a 00000e10 61 6869";
+    let set = frame_of(alloc, text)?;
     let wanted = Request {
-        opcode: 0x01,
+        opcode: 0x11,
         opaque: 1,
-        cas: 0,
-        vbucket: 0,
+        cas: 0x0102_0304_0506_0708,
+        vbucket: 1023,
         durability: None,
         body: Body::Store {
-            key: DocKey { collection: 0, key },
+            key: key(alloc, b"a")?,
             mode: Mode::Set,
             flags: 42,
-            expiry: 0,
-            value,
+            expiry: 3600,
+            value: Bytes::from_slice(alloc, b"hi")?,
         },
     };
     assert_eq!(rt; read_request(alloc, &set, &NOTHING_GRANTED)?, wanted);
@@ -112,73 +126,270 @@ fn a_set_is_read(rt: HostRuntime) -> Result<(), Fail> {
 }
 
 #[test]
-fn the_first_check_that_fails_gives_the_status(rt: HostRuntime) -> Result<(), Fail> {
+fn an_increment_is_read_with_its_three_numbers(rt: HostRuntime) -> Result<(), Fail> {
     let alloc = rt.alloc();
-    let none = b"".as_slice();
-    let key = b"a".as_slice();
+    let text =
+        "80 05 0001 14 00 0000 00000015 00000001 0000000000000000 0000000000000001 0000000000000005 00000000 6e";
+    let increment = frame_of(alloc, text)?;
+    let wanted = Body::Count {
+        key: key(alloc, b"n")?,
+        up: true,
+        delta: 1,
+        initial: 5,
+        expiry: 0,
+    };
+    let made = read_request(alloc, &increment, &NOTHING_GRANTED)?;
+    assert_eq!(rt; made.body, wanted);
+    Ok(())
+}
+
+/// A name for what is asked for.
+fn kind(body: &Body) -> &'static str {
+    match body {
+        Body::Hello { .. } => "hello",
+        Body::Noop => "noop",
+        Body::Version => "version",
+        Body::Quit => "quit",
+        Body::Get { .. } => "get",
+        Body::Store { mode, .. } => match mode {
+            Mode::Set => "set",
+            Mode::Add => "add",
+            Mode::Replace => "replace",
+        },
+        Body::Delete { .. } => "delete",
+        Body::Count { up: true, .. } => "up",
+        Body::Count { up: false, .. } => "down",
+        Body::Join { front: true, .. } => "before",
+        Body::Join { front: false, .. } => "behind",
+        Body::Touch { fetch: true, .. } => "touch and get",
+        Body::Touch { fetch: false, .. } => "touch",
+    }
+}
+
+#[test]
+fn each_opcode_asks_for_its_own(rt: HostRuntime) -> Result<(), Fail> {
+    let alloc = rt.alloc();
     let rows = [
-        (
-            "unknown opcode, bad datatype",
-            0x02,
-            2,
-            none,
-            none,
-            none,
-            Some(0x0081),
-        ),
-        ("bad datatype", 0x00, 2, none, key, none, Some(0x0004)),
-        ("datatype of JSON", 0x00, 1, none, key, none, None),
-        ("get without key", 0x00, 0, none, none, none, Some(0x0004)),
-        ("get with value", 0x00, 0, none, key, key, Some(0x0004)),
-        ("set without extras", 0x01, 0, none, key, none, Some(0x0004)),
-        ("set without value", 0x01, 0, &NO_EXPIRY, key, none, None),
-        (
-            "delete with extras",
-            0x04,
-            0,
-            &NO_EXPIRY,
-            key,
-            none,
-            Some(0x0004),
-        ),
-        ("delete", 0x04, 0, none, key, none, None),
-        ("longest key", 0x00, 0, none, &LONGEST_KEY, none, None),
-        (
-            "key too long",
-            0x00,
-            0,
-            none,
-            &KEY_TOO_LONG,
-            none,
-            Some(0x0004),
-        ),
-        ("expiry", 0x01, 0, &EXPIRY_ONE, key, none, Some(0x0083)),
-        (
-            "key too long, expiry",
-            0x01,
-            0,
-            &EXPIRY_ONE,
-            &KEY_TOO_LONG,
-            none,
-            Some(0x0004),
-        ),
+        (0x00, 0, 1, "get"),
+        (0x01, 8, 1, "set"),
+        (0x02, 8, 1, "add"),
+        (0x03, 8, 1, "replace"),
+        (0x04, 0, 1, "delete"),
+        (0x05, 20, 1, "up"),
+        (0x06, 20, 1, "down"),
+        (0x07, 0, 0, "quit"),
+        (0x09, 0, 1, "get"),
+        (0x0a, 0, 0, "noop"),
+        (0x0b, 0, 0, "version"),
+        (0x0c, 0, 1, "get"),
+        (0x0d, 0, 1, "get"),
+        (0x0e, 0, 1, "behind"),
+        (0x0f, 0, 1, "before"),
+        (0x11, 8, 1, "set"),
+        (0x12, 8, 1, "add"),
+        (0x13, 8, 1, "replace"),
+        (0x14, 0, 1, "delete"),
+        (0x15, 20, 1, "up"),
+        (0x16, 20, 1, "down"),
+        (0x17, 0, 0, "quit"),
+        (0x19, 0, 1, "behind"),
+        (0x1a, 0, 1, "before"),
+        (0x1c, 4, 1, "touch"),
+        (0x1d, 4, 1, "touch and get"),
+        (0x1f, 0, 0, "hello"),
     ];
-    for (name, opcode, datatype, extras, key, value, status) in rows {
-        let value = Bytes::from_slice(alloc, value)?;
-        let made = frame(alloc, opcode, datatype, extras, key, value)?;
-        assert_eq!(rt; status_of(alloc, &made)?, status, "{name}");
+    for (opcode, extras, letters, wanted) in rows {
+        let frame = frame_with(alloc, opcode, extras, letters)?;
+        let made = read_request(alloc, &frame, &NOTHING_GRANTED)?;
+        assert_eq!(rt; kind(&made.body), wanted, "{opcode:02x}");
+        // No request has as many extras.
+        let longer = frame_with(alloc, opcode, 21, letters)?;
+        assert_eq!(rt; outcome(alloc, &longer)?, (0x0004, None), "{opcode:02x}");
     }
     Ok(())
 }
 
 #[test]
-fn a_value_past_the_limit_is_too_big(rt: HostRuntime) -> Result<(), Fail> {
+fn a_level_is_read_or_refused(rt: HostRuntime) -> Result<(), Fail> {
     let alloc = rt.alloc();
-    let value = Bytes::from_vec(vec![in alloc; 0u8; 20_971_520]?);
-    let mut set = frame(alloc, 0x01, 0, &EXPIRY_ONE, b"a", value)?;
-    assert_eq!(rt; status_of(alloc, &set)?, Some(0x0083));
-    set.value = Bytes::from_vec(vec![in alloc; 0u8; 20_971_521]?);
-    assert_eq!(rt; status_of(alloc, &set)?, Some(0x0003));
+    let rows = [
+        (
+            "alone",
+            "08 01 02 01 08 00 0000 0000000c 00000005 0000000000000000 1101 0000000000000000 61 31",
+            0x0000,
+            Some((1, 30_000)),
+        ),
+        (
+            "with a timeout",
+            "08 01 04 01 08 00 0000 0000000e 00000005 0000000000000000 13011388 0000000000000000 61 31",
+            0x0000,
+            Some((1, 5_000)),
+        ),
+        (
+            "the greatest, behind an extra of another id",
+            "08 01 04 01 08 00 0000 0000000e 00000005 0000000000000000 21041103 0000000000000000 61 31",
+            0x0000,
+            Some((3, 30_000)),
+        ),
+        (
+            "none among extras of other ids",
+            "08 01 02 01 08 00 0000 0000000c 00000005 0000000000000000 2104 0000000000000000 61 31",
+            0x0000,
+            None,
+        ),
+        (
+            "timeout 0",
+            "08 01 04 01 08 00 0000 0000000e 00000005 0000000000000000 13010000 0000000000000000 61 31",
+            0x0004,
+            None,
+        ),
+        (
+            "timeout 0 of a level that isn't there",
+            "08 01 04 01 08 00 0000 0000000e 00000005 0000000000000000 13040000 0000000000000000 61 31",
+            0x0004,
+            None,
+        ),
+        (
+            "a fourth",
+            "08 01 02 01 08 00 0000 0000000c 00000005 0000000000000000 1104 0000000000000000 61 31",
+            0x00a0,
+            None,
+        ),
+        (
+            "level 0, without the extras of a Set",
+            "08 01 02 01 00 00 0000 00000003 00000005 0000000000000000 1100 61",
+            0x00a0,
+            None,
+        ),
+        (
+            "of two bytes",
+            "08 01 03 01 08 00 0000 0000000d 00000005 0000000000000000 120113 0000000000000000 61 31",
+            0x0004,
+            None,
+        ),
+        (
+            "twice",
+            "08 01 04 01 08 00 0000 0000000e 00000005 0000000000000000 11011101 0000000000000000 61 31",
+            0x0004,
+            None,
+        ),
+        (
+            "on a Get",
+            "08 00 02 01 00 00 0000 00000003 00000005 0000000000000000 1101 61",
+            0x0004,
+            None,
+        ),
+    ];
+    for (name, text, status, level) in rows {
+        let wanted = level.map(|(level, timeout)| Durability { level, timeout });
+        let frame = frame_of(alloc, text)?;
+        assert_eq!(rt; outcome(alloc, &frame)?, (status, wanted), "{name}");
+    }
+    Ok(())
+}
+
+#[test]
+fn the_first_check_that_fails_gives_the_status(rt: HostRuntime) -> Result<(), Fail> {
+    let alloc = rt.alloc();
+    let rows = [
+        (
+            "the first opcode of streams, datatype 2",
+            "80 50 0000 00 02 0000 00000000 00000001 0000000000000000",
+            0x0083,
+        ),
+        (
+            "the last opcode of streams",
+            "80 6f 0000 00 00 0000 00000000 00000001 0000000000000000",
+            0x0083,
+        ),
+        (
+            "the opcode before those of streams, datatype 2",
+            "80 4f 0000 00 02 0000 00000000 00000001 0000000000000000",
+            0x0081,
+        ),
+        (
+            "the opcode behind those of streams",
+            "80 70 0000 00 00 0000 00000000 00000001 0000000000000000",
+            0x0081,
+        ),
+        (
+            "datatype 2, a fourth level",
+            "08 01 02 01 08 02 0000 0000000b 00000001 0000000000000000 1104 0000000000000000 61",
+            0x0004,
+        ),
+        (
+            "a Get of datatype 1",
+            "80 00 0001 00 01 0000 00000001 00000001 0000000000000000 61",
+            0x0000,
+        ),
+        (
+            "a Get without a key",
+            "80 00 0000 00 00 0000 00000000 00000001 0000000000000000",
+            0x0004,
+        ),
+        (
+            "a Get with a value",
+            "80 00 0001 00 00 0000 00000002 00000001 0000000000000000 61 31",
+            0x0004,
+        ),
+        (
+            "an Increment with a value",
+            "80 05 0001 14 00 0000 00000016 00000001 0000000000000000 0000000000000001 0000000000000005 00000000 6e 31",
+            0x0004,
+        ),
+        (
+            "a Noop with a key",
+            "80 0a 0001 00 00 0000 00000001 00000001 0000000000000000 61",
+            0x0004,
+        ),
+        (
+            "a Hello with an odd value",
+            "80 1f 0001 00 00 0000 00000004 00000001 0000000000000000 61 000400",
+            0x0004,
+        ),
+        (
+            "an Add with a CAS",
+            "80 02 0001 08 00 0000 00000009 00000001 0000000000000001 0000000000000000 61",
+            0x0004,
+        ),
+        (
+            "a Replace with a CAS",
+            "80 03 0001 08 00 0000 00000009 00000001 0000000000000001 0000000000000000 61",
+            0x0000,
+        ),
+    ];
+    for (name, text, status) in rows {
+        let frame = frame_of(alloc, text)?;
+        assert_eq!(rt; outcome(alloc, &frame)?, (status, None), "{name}");
+    }
+    Ok(())
+}
+
+#[test]
+fn the_longest_key_and_value_pass_and_no_longer_ones(rt: HostRuntime) -> Result<(), Fail> {
+    let alloc = rt.alloc();
+    let mut frame = frame_with(alloc, 0x02, 8, 250)?;
+    frame.value = Bytes::from_vec(vec![in alloc; 0u8; 20_971_520]?);
+    assert_eq!(rt; outcome(alloc, &frame)?, (0x0000, None));
+    frame.value = Bytes::from_vec(vec![in alloc; 0u8; 20_971_521]?);
+    frame.cas = 1;
+    assert_eq!(rt; outcome(alloc, &frame)?, (0x0003, None));
+    frame.key = Bytes::from_vec(vec![in alloc; b'k'; 251]?);
+    assert_eq!(rt; outcome(alloc, &frame)?, (0x0004, None));
+    Ok(())
+}
+
+#[test]
+fn a_hello_lists_the_features_that_it_asks_for(rt: HostRuntime) -> Result<(), Fail> {
+    let alloc = rt.alloc();
+    let hello = frame_of(
+        alloc,
+        "80 1f 0001 00 00 0000 00000005 00000001 0000000000000000 61 0004 0110",
+    )?;
+    let wanted = Body::Hello {
+        wanted: Seq::from_vec(vec![in alloc; 4u16, 272]?),
+    };
+    assert_eq!(rt; read_request(alloc, &hello, &NOTHING_GRANTED)?.body, wanted);
     Ok(())
 }
 
@@ -186,48 +397,64 @@ fn a_value_past_the_limit_is_too_big(rt: HostRuntime) -> Result<(), Fail> {
 fn a_reply_to_a_get_has_its_flags_in_front(rt: HostRuntime) -> Result<(), Fail> {
     let alloc = rt.alloc();
     let reply = Reply {
-        opcode: 0x00,
-        opaque: 0xdeadbeef,
+        opcode: 0x0c,
+        opaque: 0xdead_beef,
         status: Status::SUCCESS,
         cas: 5,
         json: true,
         flags: Some(42),
         token: Some((4, 9)),
-        extras: Bytes::new(alloc),
-        key: None,
+        extras: Bytes::from_slice(alloc, b"e")?,
+        key: Some(key(alloc, b"a")?),
         value: Bytes::from_slice(alloc, b"hi")?,
     };
     let plain = write_reply(alloc, &reply, &NOTHING_GRANTED)?.ok_or("it is sent")?;
     assert_eq!(rt; plain.magic, Magic::Reply);
     assert_eq!(rt;
         (plain.opcode, plain.datatype, plain.word),
-        (0x00, 0, 0x0000)
+        (0x0c, 0, 0x0000)
     );
-    assert_eq!(rt; (plain.opaque, plain.cas), (0xdeadbeef, 5));
-    assert_eq!(rt; plain.extras.as_slice(), [0, 0, 0, 0x2a].as_slice());
-    assert!(rt; plain.key.is_empty());
+    assert_eq!(rt; (plain.opaque, plain.cas), (0xdead_beef, 5));
+    assert_eq!(rt; plain.extras.as_slice(), [0, 0, 0, 0x2a, b'e'].as_slice());
+    assert_eq!(rt; plain.key.as_slice(), b"a".as_slice());
     assert_eq!(rt; plain.value.as_slice(), b"hi".as_slice());
 
     let full = write_reply(alloc, &reply, &ALL_GRANTED)?.ok_or("it is sent")?;
     assert_eq!(rt; full.datatype, 1);
-    assert_eq!(rt;
-        full.extras.as_slice(),
-        [
-            0, 0, 0, 0x2a, 0, 0, 0, 0, 0, 0, 0, 4, 0, 0, 0, 0, 0, 0, 0, 9
-        ]
-        .as_slice()
-    );
+    let wanted = hex(alloc, "0000002a 0000000000000004 0000000000000009 65")?;
+    assert_eq!(rt; full.extras.as_slice(), wanted.as_slice());
     Ok(())
 }
 
 #[test]
-fn a_refusal_has_an_empty_body(rt: HostRuntime) -> Result<(), Fail> {
+fn quiet_opcodes_leave_one_status_unsent(rt: HostRuntime) -> Result<(), Fail> {
     let alloc = rt.alloc();
-    let reply = refusal(alloc, 0x04, 7, Status::KEY_EEXISTS);
-    let made = write_reply(alloc, &reply, &ALL_GRANTED)?.ok_or("it is sent")?;
-    assert_eq!(rt; made.magic, Magic::Reply);
-    assert_eq!(rt; (made.opcode, made.datatype, made.word), (0x04, 0, 0x0002));
-    assert_eq!(rt; (made.opaque, made.cas), (7, 0));
-    assert!(rt; made.extras.is_empty() && made.key.is_empty() && made.value.is_empty());
+    let rows = [
+        ("the miss of a Get", 0x00, 0x0001, true),
+        ("the miss of a quiet Get", 0x09, 0x0001, false),
+        ("the success of a quiet Get", 0x09, 0x0000, true),
+        ("the miss of a quiet GetK", 0x0d, 0x0001, false),
+        ("the success of a Set", 0x01, 0x0000, true),
+        ("the success of a quiet Set", 0x11, 0x0000, false),
+        ("the refusal of a quiet Set", 0x11, 0x0002, true),
+        ("the success of a quiet Prepend", 0x1a, 0x0000, false),
+        ("the miss of a quiet Increment", 0x15, 0x0001, true),
+        ("the success of a quiet Quit", 0x17, 0x0000, false),
+        ("the refusal of an unknown opcode", 0x4f, 0x0081, true),
+    ];
+    for (name, opcode, code, is_sent) in rows {
+        let reply = refusal(alloc, opcode, 7, Status { code });
+        match write_reply(alloc, &reply, &ALL_GRANTED)? {
+            None => assert!(rt; !is_sent, "{name}"),
+            Some(made) => {
+                assert!(rt; is_sent, "{name}");
+                assert_eq!(rt; (made.magic, made.opcode), (Magic::Reply, opcode), "{name}");
+                assert_eq!(rt; (made.datatype, made.word), (0, code), "{name}");
+                assert_eq!(rt; (made.opaque, made.cas), (7, 0), "{name}");
+                assert!(rt; made.extras.is_empty() && made.key.is_empty(), "{name}");
+                assert!(rt; made.value.is_empty(), "{name}");
+            }
+        }
+    }
     Ok(())
 }

@@ -1,6 +1,7 @@
-ghost use Rattle.std.specs.Prelude.{◌≡◌, ◌++◌, IfOk, Some};
-ghost use Rattle.kv_request.specs.Tables.{frame as frame_of, flags_bytes, token_bytes, key_bytes, IsReply};
+ghost use Rattle.std.specs.Prelude.{◌≡◌, ◌++◌, IfOk};
+ghost use Rattle.kv_request.specs.Tables.{sent, flags_bytes, token_bytes, key_bytes};
 
+use crate::opcode::is_unsent;
 use crate::reading::JSON;
 use crate::reply::Reply;
 use crate::request::Features;
@@ -8,15 +9,17 @@ use kv_edge::{Bytes, Copied, NoMemory, Seq};
 use kv_frame::{Frame, Magic};
 use std::alloc::Global;
 
-/// The frame of a reply.
+/// The frame of a reply, or nothing where its opcode is quiet and leaves this status unsent.
 pub fn write_reply(
     alloc: Global,
     reply: &Reply,
     features: &Features,
 ) -> Result<Option<Frame>, NoMemory>
-    requires { IsReply reply.now }
-    ensures { IfOk result (λ made. made ≡ Some (frame_of features.now reply.now)) }
+    ensures { IfOk result (λ made. made ≡ sent features.now reply.now) }
 {
+    if is_unsent(reply.opcode, reply.status) {
+        return Ok(None);
+    }
     let extras = extras(alloc, reply, features)?;
     let key = key(alloc, reply)?;
     let value = reply.value.copy(alloc)?;
