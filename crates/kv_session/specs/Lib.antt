@@ -1,0 +1,6 @@
+pub mod Answers
+pub mod Filling
+pub mod Session
+pub mod Sending
+pub mod Making
+pub mod Cutting

@@ -1,0 +1,158 @@
+//! What a session answers by itself.
+
+ghost use Rattle.std.specs.Prelude.{◌≡◌, IfOk};
+ghost use Rattle.std.specs.List.{flat_map, list_any};
+ghost use Rattle.std.specs.Int.{w16, to_be_bytes};
+ghost use Rattle.kv_session.specs.Answers.{is_granted, granted, features_of, telling, made_of, made_by};
+ghost use Rattle.kv_session.specs.Making.{Makes, Spells};
+ghost use Rattle.kv_frame.specs.Grammar.{Fits};
+
+use doc_model::{Refused, Status};
+use kv_edge::{Bytes, NoMemory};
+use kv_frame::Frame;
+use kv_request::{Body, Features, Reply, Request, read_request, refusal};
+use std::alloc::Global;
+
+/// Mutation tokens: replies to writes tell term and sequence number.
+pub const FEATURE_TOKEN: u16 = 0x0004;
+
+/// Extended attributes. It changes nothing.
+pub const FEATURE_XATTR: u16 = 0x0006;
+
+/// Extended errors. It changes nothing.
+pub const FEATURE_XERROR: u16 = 0x0007;
+
+/// Flexible framing (alternative requests), which is taken with and without it. It changes nothing.
+pub const FEATURE_FLEX: u16 = 0x0010;
+
+/// Durable writes (synchronous replication), which are taken with and without it. It changes nothing.
+pub const FEATURE_DURABILITY: u16 = 0x0011;
+
+/// The version that is told.
+pub const VERSION_TEXT: &[u8; 5] = b"1.0.0";
+
+/// What a session makes of a frame.
+#[derive(Debug, Drop)]
+pub(crate) enum Made {
+    /// A request to pass on.
+    Passed(Request),
+    /// A reply of the session's own, the features from then on, and whether the connection ends.
+    Told {
+        reply: Reply,
+        features: Features,
+        quit: bool,
+    },
+}
+
+/// What a session makes of a frame, under the features granted so far.
+pub(crate) fn make(alloc: Global, frame: &Frame, features: &Features) -> Result<Made, NoMemory>
+    requires { Fits frame.now }
+    ensures made { IfOk result (Makes (made_by features.now frame.now)) }
+    ensures spells { IfOk result Spells }
+{
+    match read_request(alloc, frame, features) {
+        Ok(request) => make_of(alloc, request, *features),
+        Err(Refused::NoMemory) => Err(NoMemory),
+        Err(Refused::Status(status)) => Ok(Made::Told {
+            reply: refusal(alloc, frame.opcode, frame.opaque, status),
+            features: *features,
+            quit: false,
+        }),
+    }
+}
+
+/// What a session makes of a request.
+fn make_of(alloc: Global, request: Request, features: Features) -> Result<Made, NoMemory>
+    ensures { IfOk result (Makes (made_of features request request.body)) }
+{
+    match &request.body {
+        Body::Hello { wanted } => {
+            let codes = grant(alloc, wanted.as_slice())?;
+            let value = spell(alloc, &codes)?;
+            Ok(Made::Told {
+                reply: tell(alloc, &request, value),
+                features: take(&codes),
+                quit: false,
+            })
+        }
+        Body::Noop => Ok(Made::Told {
+            reply: tell(alloc, &request, Bytes::new(alloc)),
+            features,
+            quit: false,
+        }),
+        Body::Version => Ok(Made::Told {
+            reply: tell(alloc, &request, Bytes::from_slice(alloc, VERSION_TEXT)?),
+            features,
+            quit: false,
+        }),
+        Body::Quit => Ok(Made::Told {
+            reply: tell(alloc, &request, Bytes::new(alloc)),
+            features,
+            quit: true,
+        }),
+        _ => Ok(Made::Passed(request)),
+    }
+}
+
+/// Whether a feature is granted where it is asked for.
+fn is_granted(code: u16) -> bool
+    ensures { result ≡ is_granted code }
+{
+    matches!(
+        code,
+        FEATURE_TOKEN | FEATURE_XATTR | FEATURE_XERROR | FEATURE_FLEX | FEATURE_DURABILITY
+    )
+}
+
+/// The features that are granted of those asked for, each once.
+fn grant(alloc: Global, wanted: &[u16]) -> Result<Vec<u16>, NoMemory>
+    ensures { IfOk result (λ codes. codes.items ≡ granted wanted.now) }
+{
+    let mut codes = Vec::new(alloc);
+    for code in wanted {
+        if is_granted(*code) && !codes.contains(code) {
+            codes.push(*code)?;
+        }
+    }
+    Ok(codes)
+}
+
+/// Two bytes for each feature.
+fn spell(alloc: Global, codes: &[u16]) -> Result<Bytes, NoMemory>
+    ensures { IfOk result (λ bytes. bytes ≡ flat_map (to_be_bytes w16) codes.now) }
+{
+    let mut bytes = Vec::new(alloc);
+    for code in codes {
+        bytes.extend_from_slice(&code.to_be_bytes())?;
+    }
+    Ok(Bytes::from_vec(bytes))
+}
+
+/// What these features change.
+fn take(codes: &[u16]) -> Features
+    ensures { result ≡ features_of codes.now }
+{
+    Features {
+        token: codes.contains(&FEATURE_TOKEN),
+        json: false,
+        collections: false,
+    }
+}
+
+/// A reply with this value.
+fn tell(alloc: Global, request: &Request, value: Bytes) -> Reply
+    ensures { result ≡ telling request.now value }
+{
+    Reply {
+        opcode: request.opcode,
+        opaque: request.opaque,
+        status: Status::SUCCESS,
+        cas: 0,
+        json: false,
+        flags: None,
+        token: None,
+        extras: Bytes::new(alloc),
+        key: None,
+        value,
+    }
+}
