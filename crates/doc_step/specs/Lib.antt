@@ -1,0 +1,4 @@
+pub mod Expiry
+pub mod Counter
+pub mod Step
+pub mod Laws
