@@ -1,3 +1,4 @@
-pub mod Small
 pub mod Keys
+pub mod Planned
+pub mod Small
 pub mod Runs

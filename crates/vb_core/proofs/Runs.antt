@@ -1,9 +1,10 @@
 -- What requests leave of a document, over whole runs.
-use Rattle.std.specs.Prelude.{◌≡◌, ◌≢◌, ℕ, ◌+◌, Bool, true, false, nat_eq, is_some, List, [], ◌∷◌, Option, Some, None, Result, Ok, Err, if◌then◌else◌, refl}
+use Rattle.std.specs.Prelude.{◌≡◌, ◌≢◌, ℕ, ◌+◌, ◌≤◌, Bool, true, false, ◌&&◌, nat_eq, is_some, List, [], ◌∷◌, Option, Some, None, Result, Ok, Err, if◌then◌else◌, refl}
 use Rattle.std.specs.Option.{option_map_or}
 use Rattle.std.specs.List.{AllByRecursion}
 use Rattle.std.specs.FinMap as map
-use Rattle.std.proofs.Common.{sym, ◌∙◌, ap}
+use Rattle.std.proofs.Common.{◌⊎◌, inl, inr, sym, ◌∙◌, ap, arith}
+use Rattle.std.proofs.lemmas.Bool.Decides.{nat_tests}
 use Rattle.doc_model.specs.declared.key.DocKey.{DocKey}
 use Rattle.doc_model.specs.declared.document.Doc.{Doc}
 use Rattle.doc_model.specs.declared.document.What.TheVariants as whats
@@ -15,15 +16,19 @@ use Rattle.kv_request.specs.declared.request.Body.{Body}
 use Rattle.kv_request.specs.declared.request.Body.TheVariants as bodies
 use Rattle.kv_request.specs.declared.request.Mode.TheVariants as modes
 use Rattle.kv_request.specs.declared.reply.Reply.{Reply}
-use Rattle.vb_core.specs.declared.planning.Effect.{Effect}
-use Rattle.vb_core.specs.declared.planning.Effect.TheVariants as effects
-use Rattle.vb_core.specs.declared.planning.Change.{Change}
+use Rattle.kv_request.specs.Tables.{refused, document_key}
+use Rattle.doc_step.specs.declared.Effect.{Effect}
+use Rattle.doc_step.specs.declared.Effect.TheVariants as effects
+use Rattle.doc_step.specs.declared.Change.{Change}
+use Rattle.doc_step.specs.Expiry.{Setting, seconds, asked, is_expired, there}
+use Rattle.doc_step.specs.Step.{cas_refusal, carrying, stored_doc, get_step, delete_step, operation, tells_token}
 use Rattle.vb_core.specs.declared.vb.TheConstants.{VBUCKET}
-use Rattle.vb_core.specs.Log.{Entry, Content, with_entries}
-use Rattle.vb_core.specs.Documents.{doc_of, cas_refusal, named_key, carrying, kept_xattrs, operation, document_step}
-use Rattle.vb_core.specs.Step.{Copy, drawn, entries_of, concluded, request_step, seen_with, after, answered}
-use Rattle.vb_core.specs.Runs.{Event, after_all, IsUnconditional, IsGet, IsSet, IsDelete, LeavesBody, Leaves, Carries}
+use Rattle.vb_core.specs.Log.{Entry, Content, with_entries, doc_of}
+use Rattle.vb_core.specs.Step.{Copy, drawn, entries_of, concluded, early_refusal, setting_at, document_request, request_step, seen_with, moment_of, after, answered}
+use Rattle.vb_core.specs.Runs.{Event, after_all, IsUnconditional, IsGet, IsSet, IsDelete, Outlasts, LeavesBody, Leaves, Carries}
 use Rattle.vb_core.proofs.Keys.{get_same, get_other}
+
+-- ---- what stays
 
 -- these entries leave what the key has
 abbrev Keeps : Content → DocKey → List Entry → Type 0
@@ -34,93 +39,125 @@ entries_keep content key other effects.Nothing cas differs = refl
 entries_keep content key other (effects.Put doc) cas differs = get_other content.documents key other (whats.Put (record doc { seqno = content.position + 1 })) differs
 entries_keep content key other effects.Remove cas differs = get_other content.documents key other (whats.Remove cas) differs
 
-concluded_keeps : (content : Content) (request : Request) (other : DocKey) (cas : ℕ) (step : Result Change Status) → other ≢ named_key request.body → Keeps content other (concluded content request cas step).0
-concluded_keeps content request other cas (Ok change) differs = entries_keep content (named_key request.body) other change.effect cas differs
+concluded_keeps : (content : Content) (request : Request) (other : DocKey) (cas : ℕ) (step : Result Change Status) → other ≢ document_key request.body → Keeps content other (concluded content request cas step).0
+concluded_keeps content request other cas (Ok change) differs = entries_keep content (document_key request.body) other change.effect cas differs
 concluded_keeps content request other cas (Err refusing) differs = refl
 
--- either of two answers keeps it, or one without entries
-chosen_keeps : (content : Content) (key : DocKey) (b : Bool) (x y : List Entry × Reply) → Keeps content key x.0 → Keeps content key y.0 → Keeps content key (if b then x else y).0
-chosen_keeps content key true x y h k = h
-chosen_keeps content key false x y h k = k
+unless_refused : (content : Content) (request : Request) (key : DocKey) (refusing : Option Status) (r : List Entry × Reply) → Keeps content key r.0 → Keeps content key (option_map_or {U = List Entry × Reply} (λ s. ([], refused request.opcode request.opaque s)) refusing r).0
+unless_refused content request key None r h = h
+unless_refused content request key (Some s) r h = refl
 
-step_keeps : (content : Content) (seen : ℕ) (request : Request) (key : DocKey) → Keeps content key (concluded content request (drawn content seen) (document_step request (doc_of (map.get content.documents (named_key request.body))) (drawn content seen))).0 → Keeps content key (request_step content seen request).0
-step_keeps content seen request key h =
-    chosen_keeps content key (is_some request.durability) _ _ refl (chosen_keeps content key (nat_eq request.vbucket VBUCKET) _ _ h refl)
+step_keeps : (content : Content) (seen now : ℕ) (request : Request) (key : DocKey) → Keeps content key (document_request content seen now request).0 → Keeps content key (request_step content seen now request).0
+step_keeps content seen now request key h = unless_refused content request key (early_refusal request) (document_request content seen now request) h
 
 -- a request of one key changes no other key
-pub other_stays : (copy : Copy) (request : Request) (now : ℕ) (other : DocKey) → other ≢ named_key request.body → map.get (after copy request now).content.documents other ≡ map.get copy.content.documents other
-other_stays copy request now other differs = step_keeps copy.content (seen_with copy.seen now) request other (concluded_keeps copy.content request other _ _ differs)
+pub other_stays : (copy : Copy) (request : Request) (now : ℕ) (other : DocKey) → other ≢ document_key request.body → map.get (after copy request now).content.documents other ≡ map.get copy.content.documents other
+other_stays copy request now other differs =
+    step_keeps copy.content (seen_with copy.seen now) (moment_of now) request other (concluded_keeps copy.content request other _ _ differs)
 
 -- a Get has no entries
-get_keeps : (content : Content) (request : Request) (key other : DocKey) (doc : Option Doc) (cas : ℕ) (refusing : Option Status) → Keeps content key (concluded content request cas (option_map_or {U = Result Change Status} (λ s. Err s) refusing (operation request (bodies.Get other) doc cas))).0
+get_keeps : (content : Content) (request : Request) (key other : DocKey) (doc : Option Doc) (cas : ℕ) (refusing : Option Status) → Keeps content key (concluded content request cas (option_map_or {U = Result Change Status} (λ s. Err s) refusing (get_step request other doc))).0
 get_keeps content request key other None cas None = refl
 get_keeps content request key other (Some doc) cas None = refl
 get_keeps content request key other doc cas (Some s) = refl
 
-body_keeps : (content : Content) (request : Request) (key : DocKey) (body : Body) (doc : Option Doc) (cas : ℕ) → request.body ≡ body → LeavesBody key body → Keeps content key (concluded content request cas (option_map_or {U = Result Change Status} (λ s. Err s) (cas_refusal request.cas doc) (operation request body doc cas))).0
-body_keeps content request key (bodies.Get other) doc cas e h = get_keeps content request key other doc cas (cas_refusal request.cas doc)
-body_keeps content request key (bodies.Store other mode flags expiry value) doc cas e h = concluded_keeps content request key cas _ (λ same. h (sym (same ∙ ap named_key e)))
-body_keeps content request key (bodies.Delete other) doc cas e h = concluded_keeps content request key cas _ (λ same. h (sym (same ∙ ap named_key e)))
+-- and neither has what asks nothing of documents
+none_keeps : (content : Content) (request : Request) (key : DocKey) (cas : ℕ) (refusing : Option Status) → Keeps content key (concluded content request cas (option_map_or {U = Result Change Status} (λ s. Err s) refusing (Err status.UNKNOWN_COMMAND))).0
+none_keeps content request key cas None = refl
+none_keeps content request key cas (Some s) = refl
+
+body_keeps : (content : Content) (s : Setting) (request : Request) (key : DocKey) (body : Body) (doc : Option Doc) (cas : ℕ) → request.body ≡ body → LeavesBody key body → Keeps content key (concluded content request cas (option_map_or {U = Result Change Status} (λ r. Err r) (cas_refusal request.cas doc) (operation s request body doc))).0
+body_keeps content s request key (bodies.Hello wanted) doc cas e h = none_keeps content request key cas (cas_refusal request.cas doc)
+body_keeps content s request key bodies.Noop doc cas e h = none_keeps content request key cas (cas_refusal request.cas doc)
+body_keeps content s request key bodies.Version doc cas e h = none_keeps content request key cas (cas_refusal request.cas doc)
+body_keeps content s request key bodies.Quit doc cas e h = none_keeps content request key cas (cas_refusal request.cas doc)
+body_keeps content s request key (bodies.Get other) doc cas e h = get_keeps content request key other doc cas (cas_refusal request.cas doc)
+body_keeps content s request key (bodies.Store other mode flags expiry value) doc cas e h = concluded_keeps content request key cas _ (λ same. h (sym (same ∙ ap document_key e)))
+body_keeps content s request key (bodies.Delete other) doc cas e h = concluded_keeps content request key cas _ (λ same. h (sym (same ∙ ap document_key e)))
+body_keeps content s request key (bodies.Count other up delta initial expiry) doc cas e h = concluded_keeps content request key cas _ (λ same. h (sym (same ∙ ap document_key e)))
+body_keeps content s request key (bodies.Join other front value) doc cas e h = concluded_keeps content request key cas _ (λ same. h (sym (same ∙ ap document_key e)))
+body_keeps content s request key (bodies.Touch other expiry fetch) doc cas e h = concluded_keeps content request key cas _ (λ same. h (sym (same ∙ ap document_key e)))
 
 event_keeps : (copy : Copy) (e : Event) (key : DocKey) → Leaves key e → map.get (after copy e.request e.now).content.documents key ≡ map.get copy.content.documents key
-event_keeps copy e key h = step_keeps copy.content (seen_with copy.seen e.now) e.request key (body_keeps copy.content e.request key e.request.body _ _ refl h)
+event_keeps copy e key h =
+    let seen = seen_with copy.seen e.now in
+    step_keeps copy.content seen (moment_of e.now) e.request key (body_keeps copy.content (setting_at copy.content seen (moment_of e.now)) e.request key e.request.body _ _ refl h)
 
--- requests that store and delete other documents leave this one
+-- requests that change other documents leave this one
 run_keeps : (copy : Copy) (es : List Event) (key : DocKey) → AllByRecursion (Leaves key) es → map.get (after_all copy es).content.documents key ≡ map.get copy.content.documents key
 run_keeps copy [] key h = refl
 run_keeps copy (e ∷ es) key h = run_keeps (after copy e.request e.now) es key h.1 ∙ event_keeps copy e key h.0
 
-reached : (level : Option Durability) (vbucket : ℕ) (x y z : List Entry × Reply) → level ≡ None → vbucket ≡ VBUCKET → (if is_some level then x else (if nat_eq vbucket VBUCKET then y else z)) ≡ y
-reached level vbucket x y z e f = rw (e, f)
+-- ---- what a request that takes any document comes to
+
+none_early : (level : Option Durability) (vbucket : ℕ) → level ≡ None → vbucket ≡ VBUCKET → (if is_some level then Some status.NOT_SUPPORTED else (if nat_eq vbucket VBUCKET then None else Some status.NOT_MY_VBUCKET)) ≡ None
+none_early level vbucket e f = rw (e, f)
 
 any_cas : (cas : ℕ) (doc : Option Doc) → cas ≡ 0 → cas_refusal cas doc ≡ None
 any_cas cas None e = rw e
 any_cas cas (Some doc) e = rw e
 
--- what the operation of a request on this body comes to
-abbrev operated : Content → ℕ → Request → Body → List Entry × Reply
-operated content seen request body = concluded content request (drawn content seen) (operation request body (doc_of (map.get content.documents (named_key request.body))) (drawn content seen))
+-- what the operation of a request comes to, where the key has this document
+abbrev operated : Content → ℕ → ℕ → Request → Body → Option Doc → List Entry × Reply
+operated content seen now request body doc = concluded content request (drawn content seen) (operation (setting_at content seen now) request body (there now doc))
 
 -- a request that takes any document comes to its operation
-served : (content : Content) (seen : ℕ) (request : Request) (body : Body) → IsUnconditional request → request.body ≡ body → request_step content seen request ≡ operated content seen request body
-served content seen request body u e =
-    let doc = doc_of (map.get content.documents (named_key request.body)) in
-    let cas = drawn content seen in
-    reached request.durability request.vbucket _ _ _ u.level u.ours
-    ∙ ap (λ o. concluded content request cas (option_map_or {U = Result Change Status} (λ s. Err s) o (operation request request.body doc cas))) (any_cas request.cas doc u.any)
-    ∙ ap (λ b. operated content seen request b) e
+served : (content : Content) (seen now : ℕ) (request : Request) (body : Body) → IsUnconditional request → request.body ≡ body → request_step content seen now request ≡ operated content seen now request body (doc_of (map.get content.documents (document_key body)))
+served content seen now request body u e =
+    let s = setting_at content seen now in
+    let doc = doc_of (map.get content.documents (document_key request.body)) in
+    ap (λ o. option_map_or {U = List Entry × Reply} (λ r. ([], refused request.opcode request.opaque r)) o (document_request content seen now request)) (none_early request.durability request.vbucket u.level u.ours)
+    ∙ ap (λ o. concluded content request (drawn content seen) (option_map_or {U = Result Change Status} (λ r. Err r) o (operation s request request.body (there now doc)))) (any_cas request.cas (there now doc) u.any)
+    ∙ ap (λ b. operated content seen now request b (doc_of (map.get content.documents (document_key b)))) e
 
--- the key has a document with these flags and this value
-record Has (content : Content) (key : DocKey) (flags : ℕ) (value : List ℕ) : Type 0 where
+-- ---- a Get answers what was stored
+
+-- the key has a document with these flags, this expiry and this value
+record Has (content : Content) (key : DocKey) (flags expiry : ℕ) (value : List ℕ) : Type 0 where
   doc : Doc
   there : map.get content.documents key ≡ Some (whats.Put doc)
   flags_are : doc.flags ≡ flags
+  expiry_is : doc.expiry ≡ expiry
   value_is : doc.value ≡ value
 
-set_stores : (copy : Copy) (request : Request) (now : ℕ) (key : DocKey) (flags : ℕ) (value : List ℕ) → IsSet request key flags value → Has (after copy request now).content key flags value
-set_stores copy request now key flags value h =
+set_stores : (copy : Copy) (request : Request) (now : ℕ) (key : DocKey) (flags expiry : ℕ) (value : List ℕ) → IsSet request key flags expiry value → Has (after copy request now).content key flags (asked (seconds (moment_of now)) expiry) value
+set_stores copy request now key flags expiry value h =
     let content = copy.content in
     let seen = seen_with copy.seen now in
-    let stored : Doc = record { value = value; xattrs = kept_xattrs (doc_of (map.get content.documents (named_key request.body))); flags = flags; expiry = h.stored.0; cas = drawn content seen; seqno = content.position + 1; json = false } in
+    let moment = moment_of now in
+    let before = there moment (doc_of (map.get content.documents key)) in
+    let stored : Doc = record (stored_doc (setting_at content seen moment) flags expiry value before) { seqno = content.position + 1 } in
     record {
       doc = stored;
       there =
-          ap (λ (r : List Entry × Reply). map.get (with_entries content r.0).documents key) (served content seen request (bodies.Store key modes.Set flags h.stored.0 value) h.unconditional h.stored.1)
-          ∙ ap (λ k. map.get (map.insert content.documents k (whats.Put stored)) key) (ap named_key h.stored.1)
+          ap (λ (r : List Entry × Reply). map.get (with_entries content r.0).documents key) (served content seen moment request (bodies.Store key modes.Set flags expiry value) h.unconditional h.stored)
+          ∙ ap (λ k. map.get (map.insert content.documents k (whats.Put stored)) key) (ap document_key h.stored)
           ∙ get_same content.documents key (whats.Put stored);
       flags_are = refl;
+      expiry_is = refl;
       value_is = refl;
     }
 
-get_carries : (copy : Copy) (request : Request) (now : ℕ) (key : DocKey) (flags : ℕ) (value : List ℕ) → IsGet request key → Has copy.content key flags value → Carries (answered copy request now) flags value
-get_carries copy request now key flags value g h =
+still_there : (doc : Doc) (expiry now : ℕ) → doc.expiry ≡ expiry → is_expired expiry now ≡ false → there now (Some doc) ≡ Some doc
+still_there doc expiry now e f =
+    ap (λ x. if is_expired x now then None else Some doc) e ∙ ap (λ b. if b then None else Some doc) f
+
+-- what changes nothing tells no token
+untold : (b : Bool) (x y : Reply) → (if b && false then x else y) ≡ y
+untold true x y = refl
+untold false x y = refl
+
+get_carries : (copy : Copy) (request : Request) (now : ℕ) (key : DocKey) (flags expiry : ℕ) (value : List ℕ) → IsGet request key → Has copy.content key flags expiry value → is_expired expiry (moment_of now) ≡ false → Carries (answered copy request now) flags value
+get_carries copy request now key flags expiry value g h lasts =
     let content = copy.content in
     let seen = seen_with copy.seen now in
-    let found : doc_of (map.get content.documents (named_key request.body)) ≡ Some h.doc =
-    ap (λ k. doc_of (map.get content.documents k)) (ap named_key g.body) ∙ ap doc_of h.there in
-    let told : answered copy request now ≡ carrying request h.doc =
-    ap (λ (r : List Entry × Reply). r.1) (served content seen request (bodies.Get key) g.unconditional g.body)
-    ∙ ap (λ d. (concluded content request (drawn content seen) (operation request (bodies.Get key) d (drawn content seen))).1) found in
+    let moment = moment_of now in
+    let found : there moment (doc_of (map.get content.documents key)) ≡ Some h.doc =
+    ap (λ w. there moment (doc_of w)) h.there ∙ still_there h.doc expiry moment h.expiry_is lasts in
+    let told : answered copy request now ≡ carrying request key h.doc =
+    ap (λ (r : List Entry × Reply). r.1) (served content seen moment request (bodies.Get key) g.unconditional g.body)
+    ∙ ap (λ d. (concluded content request (drawn content seen) (get_step request key d)).1) found
+    ∙ untold (tells_token request.body) _ (carrying request key h.doc) in
     record {
       success = ap (λ (r : Reply). r.status) told;
       flags_told = ap (λ (r : Reply). r.flags) told ∙ ap (λ f. Some f) h.flags_are;
@@ -128,48 +165,77 @@ get_carries copy request now key flags value g h =
     }
 
 -- a Get answers what the last Set of its key stored
-pub get_answers : (copy : Copy) (set get : Event) (between : List Event) (key : DocKey) (flags : ℕ) (value : List ℕ) → IsSet set.request key flags value → AllByRecursion (Leaves key) between → IsGet get.request key → Carries (answered (after_all (after copy set.request set.now) between) get.request get.now) flags value
-get_answers copy set get between key flags value s l g =
+pub get_answers : (copy : Copy) (set get : Event) (between : List Event) (key : DocKey) (flags expiry : ℕ) (value : List ℕ) → IsSet set.request key flags expiry value → AllByRecursion (Leaves key) between → IsGet get.request key → Outlasts set.now expiry get.now → Carries (answered (after_all (after copy set.request set.now) between) get.request get.now) flags value
+get_answers copy set get between key flags expiry value s l g lasts =
     let first = after copy set.request set.now in
-    let h : Has first.content key flags value = set_stores copy set.request set.now key flags value s in
-    get_carries (after_all first between) get.request get.now key flags value g (record { doc = h.doc; there = run_keeps first between key l ∙ h.there; flags_are = h.flags_are; value_is = h.value_is })
+    let spelt = asked (seconds (moment_of set.now)) expiry in
+    let h : Has first.content key flags spelt value = set_stores copy set.request set.now key flags expiry value s in
+    let kept : Has (after_all first between).content key flags spelt value = record { doc = h.doc; there = run_keeps first between key l ∙ h.there; flags_are = h.flags_are; expiry_is = h.expiry_is; value_is = h.value_is } in
+    get_carries (after_all first between) get.request get.now key flags spelt value g kept lasts
 
--- the key has no document
-abbrev Lacks : Content → DocKey → Type 0
-Lacks content key = doc_of (map.get content.documents key) ≡ None
+-- ---- a Get misses what was deleted
 
--- what a Delete of the key comes to
-abbrev deletion : Content → Request → DocKey → Option Doc → ℕ → Content
-deletion content request key doc cas = with_entries content (concluded content request cas (operation request (bodies.Delete key) doc cas)).0
+-- the key has no document that is there at this moment
+abbrev Lacks : Content → DocKey → ℕ → Type 0
+Lacks content key now = there now (doc_of (map.get content.documents key)) ≡ None
 
-deletion_lacks : (content : Content) (request : Request) (key : DocKey) (doc : Option Doc) (cas : ℕ) → doc_of (map.get content.documents key) ≡ doc → named_key request.body ≡ key → Lacks (deletion content request key doc cas) key
-deletion_lacks content request key None cas found named = found
-deletion_lacks content request key (Some doc) cas found named =
-    ap (λ k. doc_of (map.get (map.insert content.documents k (whats.Remove cas)) key)) named
-    ∙ ap doc_of (get_same content.documents key (whats.Remove cas))
+passed_on : (expiry now later : ℕ) → now ≤ later → is_expired expiry now ≡ true → is_expired expiry later ≡ true
+passed_on expiry now later h e = grind (arith, nat_tests)
 
-delete_removes : (copy : Copy) (request : Request) (now : ℕ) (key : DocKey) → IsDelete request key → Lacks (after copy request now).content key
-delete_removes copy request now key h =
+is_passed : (b : Bool) (doc : Doc) → (if b then None else Some doc) ≡ None → b ≡ true
+is_passed true doc e = refl
+is_passed false doc e = absurd (cc)
+
+-- what isn't there at one moment isn't there later
+gone_on : (doc : Option Doc) (now later : ℕ) → now ≤ later → there now doc ≡ None → there later doc ≡ None
+gone_on None now later h e = refl
+gone_on (Some doc) now later h e =
+    ap (λ b. if b then None else Some doc) (passed_on doc.expiry now later h (is_passed (is_expired doc.expiry now) doc e))
+
+-- what a Delete comes to where this document is there
+abbrev deletion : Content → Setting → Request → Option Doc → List Entry × Reply
+deletion content s request found = concluded content request s.draw (delete_step s request found)
+
+deletion_lacks : (content : Content) (s : Setting) (request : Request) (key : DocKey) (found : Option Doc) (later : ℕ) → document_key request.body ≡ key → there s.now (doc_of (map.get content.documents key)) ≡ found → (((deletion content s request found).1.status ≡ status.SUCCESS) ⊎ (s.now ≤ later)) → Lacks (with_entries content (deletion content s request found).0) key later
+deletion_lacks content s request key None later named e (inl done) = absurd (omega (arith, ap (λ (x : Status). x.code) done))
+deletion_lacks content s request key None later named e (inr h) = gone_on (doc_of (map.get content.documents key)) s.now later h e
+deletion_lacks content s request key (Some doc) later named e h =
+    ap (λ k. there later (doc_of (map.get (map.insert content.documents k (whats.Remove s.draw)) key))) named
+    ∙ ap (λ w. there later (doc_of w)) (get_same content.documents key (whats.Remove s.draw))
+
+-- a Delete was done, or this comes no earlier
+abbrev IsDone : Copy → Event → ℕ → Type 0
+IsDone copy delete later = ((answered copy delete.request delete.now).status ≡ status.SUCCESS) ⊎ (delete.now ≤ later)
+
+moments_on : (now later : ℕ) → now ≤ later → moment_of now ≤ moment_of later
+moments_on now later h = omega arith
+
+done_at : (copy : Copy) (delete : Event) (later : ℕ) (r : List Entry × Reply) → request_step copy.content (seen_with copy.seen delete.now) (moment_of delete.now) delete.request ≡ r → IsDone copy delete later → (r.1.status ≡ status.SUCCESS) ⊎ (moment_of delete.now ≤ moment_of later)
+done_at copy delete later r e (inl done) = inl (sym (ap (λ (r : List Entry × Reply). r.1.status) e) ∙ done)
+done_at copy delete later r e (inr h) = inr (moments_on delete.now later h)
+
+delete_removes : (copy : Copy) (delete : Event) (key : DocKey) (later : ℕ) → IsDelete delete.request key → IsDone copy delete later → Lacks (after copy delete.request delete.now).content key (moment_of later)
+delete_removes copy delete key later h done =
     let content = copy.content in
-    let seen = seen_with copy.seen now in
-    let cas = drawn content seen in
-    ap (λ (r : List Entry × Reply). doc_of (map.get (with_entries content r.0).documents key)) (served content seen request (bodies.Delete key) h.unconditional h.body)
-    ∙ ap (λ k. doc_of (map.get (deletion content request key (doc_of (map.get content.documents k)) cas).documents key)) (ap named_key h.body)
-    ∙ deletion_lacks content request key (doc_of (map.get content.documents key)) cas refl (ap named_key h.body)
+    let seen = seen_with copy.seen delete.now in
+    let moment = moment_of delete.now in
+    let s = setting_at content seen moment in
+    let found = there moment (doc_of (map.get content.documents key)) in
+    let is : request_step content seen moment delete.request ≡ deletion content s delete.request found = served content seen moment delete.request (bodies.Delete key) h.unconditional h.body in
+    ap (λ (r : List Entry × Reply). there (moment_of later) (doc_of (map.get (with_entries content r.0).documents key))) is
+    ∙ deletion_lacks content s delete.request key found (moment_of later) (ap document_key h.body) refl (done_at copy delete later (deletion content s delete.request found) is done)
 
-get_misses : (copy : Copy) (request : Request) (now : ℕ) (key : DocKey) → IsGet request key → Lacks copy.content key → (answered copy request now).status ≡ status.KEY_ENOENT
+get_misses : (copy : Copy) (request : Request) (now : ℕ) (key : DocKey) → IsGet request key → Lacks copy.content key (moment_of now) → (answered copy request now).status ≡ status.KEY_ENOENT
 get_misses copy request now key g h =
     let content = copy.content in
     let seen = seen_with copy.seen now in
-    let cas = drawn content seen in
-    let found : doc_of (map.get content.documents (named_key request.body)) ≡ None =
-    ap (λ k. doc_of (map.get content.documents k)) (ap named_key g.body) ∙ h in
-    ap (λ (r : List Entry × Reply). r.1.status) (served content seen request (bodies.Get key) g.unconditional g.body)
-    ∙ ap (λ d. (concluded content request cas (operation request (bodies.Get key) d cas)).1.status) found
+    let moment = moment_of now in
+    ap (λ (r : List Entry × Reply). r.1.status) (served content seen moment request (bodies.Get key) g.unconditional g.body)
+    ∙ ap (λ d. (concluded content request (drawn content seen) (get_step request key d)).1.status) h
 
 -- a Get misses what was deleted
-pub deleted_misses : (copy : Copy) (delete get : Event) (between : List Event) (key : DocKey) → IsDelete delete.request key → AllByRecursion (Leaves key) between → IsGet get.request key → (answered (after_all (after copy delete.request delete.now) between) get.request get.now).status ≡ status.KEY_ENOENT
-deleted_misses copy delete get between key d l g =
+pub deleted_misses : (copy : Copy) (delete get : Event) (between : List Event) (key : DocKey) → IsDelete delete.request key → AllByRecursion (Leaves key) between → IsGet get.request key → IsDone copy delete get.now → (answered (after_all (after copy delete.request delete.now) between) get.request get.now).status ≡ status.KEY_ENOENT
+deleted_misses copy delete get between key d l g done =
     let first = after copy delete.request delete.now in
-    let gone : Lacks first.content key = delete_removes copy delete.request delete.now key d in
-    get_misses (after_all first between) get.request get.now key g (ap doc_of (run_keeps first between key l) ∙ gone)
+    let gone : Lacks first.content key (moment_of get.now) = delete_removes copy delete key get.now d done in
+    get_misses (after_all first between) get.request get.now key g (ap (λ w. there (moment_of get.now) (doc_of w)) (run_keeps first between key l) ∙ gone)

@@ -1,18 +1,12 @@
 -- What an effect does to the documents.
-use Rattle.std.specs.Prelude.{ℕ, Bool, true, false}
+use Rattle.std.specs.Prelude.{ℕ}
 use Rattle.std.specs.FinMap as map
 use Rattle.doc_model.specs.declared.key.DocKey.{DocKey}
 use Rattle.doc_model.specs.declared.document.What.{What}
 use Rattle.doc_model.specs.declared.document.What.TheVariants as whats
 use Rattle.doc_model.specs.Keys.{key_cmp}
-use Rattle.vb_core.specs.declared.planning.Effect.{Effect}
-use Rattle.vb_core.specs.declared.planning.Effect.TheVariants as effects
-
--- whether there is a change
-abbrev pub changes : Effect → Bool
-changes effects.Nothing = false
-changes (effects.Put doc) = true
-changes effects.Remove = true
+use Rattle.doc_step.specs.declared.Effect.{Effect}
+use Rattle.doc_step.specs.declared.Effect.TheVariants as effects
 
 -- the documents with an effect at a position, which stores or deletes with this CAS
 abbrev pub documents_with : map.FinMap key_cmp What → DocKey → Effect → ℕ → ℕ → map.FinMap key_cmp What

@@ -1,11 +1,17 @@
 -- The history of a vbucket, and what it comes to.
-use Rattle.std.specs.Prelude.{◌≡◌, ℕ, ◌+◌, max, List, [], ◌∷◌, ◌++◌, refl}
+use Rattle.std.specs.Prelude.{◌≡◌, ℕ, ◌+◌, max, List, [], ◌∷◌, ◌++◌, Option, Some, None, refl}
 use Rattle.std.specs.FinMap as map
 use Rattle.doc_model.specs.declared.key.DocKey.{DocKey}
 use Rattle.doc_model.specs.declared.document.Doc.{Doc}
 use Rattle.doc_model.specs.declared.document.What.{What}
 use Rattle.doc_model.specs.declared.document.What.TheVariants as whats
 use Rattle.doc_model.specs.Keys.{key_cmp}
+
+-- the document that a key has
+abbrev pub doc_of : Option What → Option Doc
+doc_of None = None
+doc_of (Some (whats.Put doc)) = Some doc
+doc_of (Some (whats.Remove cas)) = None
 
 -- one change of a history
 pub data Entry : Type 0 where

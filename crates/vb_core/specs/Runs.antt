@@ -1,5 +1,5 @@
 -- Whole runs of requests, for laws in the words of those who use documents.
-use Rattle.std.specs.Prelude.{◌≡◌, ◌≢◌, ℕ, List, [], ◌∷◌, None, Some}
+use Rattle.std.specs.Prelude.{◌≡◌, ◌≢◌, ℕ, false, List, [], ◌∷◌, None, Some}
 use Rattle.doc_model.specs.declared.key.DocKey.{DocKey}
 use Rattle.doc_model.specs.declared.status.TheConstants.Status as status
 use Rattle.kv_request.specs.declared.request.Request.{Request}
@@ -8,7 +8,8 @@ use Rattle.kv_request.specs.declared.request.Body.TheVariants as bodies
 use Rattle.kv_request.specs.declared.request.Mode.TheVariants as modes
 use Rattle.kv_request.specs.declared.reply.Reply.{Reply}
 use Rattle.vb_core.specs.declared.vb.TheConstants.{VBUCKET}
-use Rattle.vb_core.specs.Step.{Copy, after}
+use Rattle.doc_step.specs.Expiry.{seconds, asked, is_expired}
+use Rattle.vb_core.specs.Step.{Copy, moment_of, after}
 
 -- a request and the moment at which it comes
 pub record Event : Type 0 where
@@ -31,9 +32,9 @@ pub record IsGet (request : Request) (key : DocKey) : Type 0 where
   pub body : request.body ≡ bodies.Get key
   pub unconditional : IsUnconditional request
 
--- a Set of the key to a value with flags
-pub record IsSet (request : Request) (key : DocKey) (flags : ℕ) (value : List ℕ) : Type 0 where
-  pub stored : (expiry : ℕ) × (request.body ≡ bodies.Store key modes.Set flags expiry value)
+-- a Set of the key to a value with flags and an expiry
+pub record IsSet (request : Request) (key : DocKey) (flags expiry : ℕ) (value : List ℕ) : Type 0 where
+  pub stored : request.body ≡ bodies.Store key modes.Set flags expiry value
   pub unconditional : IsUnconditional request
 
 -- a Delete of the key
@@ -41,11 +42,22 @@ pub record IsDelete (request : Request) (key : DocKey) : Type 0 where
   pub body : request.body ≡ bodies.Delete key
   pub unconditional : IsUnconditional request
 
--- A request that stores or deletes a document of another key, or none.
+-- A document stored at one moment with this expiry of a request is there at another.
+abbrev pub Outlasts : ℕ → ℕ → ℕ → Type 0
+Outlasts stored expiry now = is_expired (asked (seconds (moment_of stored)) expiry) (moment_of now) ≡ false
+
+-- A request that changes the document of another key, or none.
 abbrev pub LeavesBody : DocKey → Body → Type 0
+LeavesBody key (bodies.Hello wanted) = Unit {0}
+LeavesBody key bodies.Noop = Unit {0}
+LeavesBody key bodies.Version = Unit {0}
+LeavesBody key bodies.Quit = Unit {0}
 LeavesBody key (bodies.Get other) = Unit {0}
 LeavesBody key (bodies.Store other mode flags expiry value) = other ≢ key
 LeavesBody key (bodies.Delete other) = other ≢ key
+LeavesBody key (bodies.Count other up delta initial expiry) = other ≢ key
+LeavesBody key (bodies.Join other front value) = other ≢ key
+LeavesBody key (bodies.Touch other expiry fetch) = other ≢ key
 
 abbrev pub Leaves : DocKey → Event → Type 0
 Leaves key e = LeavesBody key e.request.body

@@ -1,5 +1,6 @@
 -- What a vbucket does at a request.
-use Rattle.std.specs.Prelude.{◌≡◌, ℕ, ◌+◌, ◌*◌, ◌^◌, ◌<◌, ◌≤◌, max, min, nat_eq, is_some, length, List, [], ◌∷◌, Some, Result, Ok, Err, if◌then◌else◌, ◌⊎◌, refl}
+use Rattle.std.specs.Prelude.{◌≡◌, ℕ, ◌+◌, ◌*◌, ◌^◌, max, min, nat_eq, is_some, Bool, true, false, ◌&&◌, List, [], ◌∷◌, Option, Some, None, Result, Ok, Err, if◌then◌else◌, ◌⊎◌, refl}
+use Rattle.std.specs.Option.{option_map_or}
 use Rattle.std.specs.FinMap as map
 use Rattle.std.specs.Coded.{Coded, code_by, coded×, coded_ℕ}
 use Rattle.doc_model.specs.declared.key.DocKey.{DocKey}
@@ -7,20 +8,20 @@ use Rattle.doc_model.specs.declared.document.Doc.{Doc}
 use Rattle.doc_model.specs.declared.document.What.{What}
 use Rattle.doc_model.specs.declared.document.What.TheVariants as whats
 use Rattle.doc_model.specs.declared.status.Status.{Status}
-use Rattle.doc_model.specs.declared.status.Refused.{Refused}
-use Rattle.doc_model.specs.declared.status.Refused.TheVariants as refusals
 use Rattle.doc_model.specs.declared.status.TheConstants.Status as status
 use Rattle.doc_model.specs.Keys.{key_cmp}
-use Rattle.kv_request.specs.declared.reading.TheConstants.{VALUE_LIMIT}
 use Rattle.kv_request.specs.declared.request.Request.{Request}
 use Rattle.kv_request.specs.declared.reply.Reply.{Reply}
-use Rattle.kv_request.specs.Tables.{refused}
-use Rattle.vb_core.specs.declared.planning.Effect.{Effect}
-use Rattle.vb_core.specs.declared.planning.Effect.TheVariants as effects
-use Rattle.vb_core.specs.declared.planning.Change.{Change}
+use Rattle.kv_request.specs.declared.request.Body.{Body}
+use Rattle.kv_request.specs.Tables.{refused, document_key}
+use Rattle.doc_step.specs.declared.Effect.{Effect}
+use Rattle.doc_step.specs.declared.Effect.TheVariants as effects
+use Rattle.doc_step.specs.declared.Change.{Change}
+use Rattle.doc_step.specs.Expiry.{Setting}
+use Rattle.doc_step.specs.Step.{document_step, tells_token}
+use Rattle.doc_step.specs.Laws.{IsSmallDoc}
 use Rattle.vb_core.specs.declared.vb.TheConstants.{LAST_MOMENT, TERM, VBUCKET}
-use Rattle.vb_core.specs.Log.{Entry, Mutation, Deletion, Content, no_content, with_entries}
-use Rattle.vb_core.specs.Documents.{doc_of, named_key, document_step}
+use Rattle.vb_core.specs.Log.{Entry, Mutation, Deletion, Content, no_content, with_entries, doc_of}
 
 -- the CAS that a change draws: above every one before, and at least the greatest moment seen, in milliseconds, times 2^20
 abbrev pub drawn : Content → ℕ → ℕ
@@ -32,26 +33,41 @@ entries_of key effects.Nothing cas = []
 entries_of key (effects.Put doc) cas = Mutation key doc ∷ []
 entries_of key effects.Remove cas = Deletion key cas ∷ []
 
--- the reply to a change tells term and position, where there was a change
-abbrev pub with_token : Effect → ℕ → Reply → Reply
-with_token effects.Nothing position reply = reply
-with_token (effects.Put doc) position reply = record reply { token = Some (TERM, position) }
-with_token effects.Remove position reply = record reply { token = Some (TERM, position) }
+-- whether there is a change
+abbrev pub changes : Effect → Bool
+changes effects.Nothing = false
+changes (effects.Put doc) = true
+changes effects.Remove = true
+
+-- the reply to a change tells term and position, but for that to a Touch
+abbrev pub with_token : Body → Effect → ℕ → Reply → Reply
+with_token body effect position reply = if tells_token body && changes effect then record reply { token = Some (TERM, position) } else reply
 
 -- the entries and the reply that a document step comes to
 abbrev pub concluded : Content → Request → ℕ → Result Change Status → List Entry × Reply
-concluded content request cas (Ok change) = (entries_of (named_key request.body) change.effect cas, with_token change.effect (content.position + 1) change.reply)
+concluded content request cas (Ok change) = (entries_of (document_key request.body) change.effect cas, with_token request.body change.effect (content.position + 1) change.reply)
 concluded content request cas (Err refusing) = ([], refused request.opcode request.opaque refusing)
 
+-- why a request is refused whatever its document is: levels aren't served yet, and another vbucket isn't ours
+abbrev pub early_refusal : Request → Option Status
+early_refusal request =
+    if is_some request.durability then Some status.NOT_SUPPORTED else (if nat_eq request.vbucket VBUCKET then None else Some status.NOT_MY_VBUCKET)
+
+-- what surrounds a request where this is the greatest moment seen and that its own: any lifetime is granted
+abbrev pub setting_at : Content → ℕ → ℕ → Setting
+setting_at content seen now = record { max_ttl = 0; now = now; draw = drawn content seen }
+
+-- what a request on a document appends and answers
+abbrev pub document_request : Content → ℕ → ℕ → Request → List Entry × Reply
+document_request content seen now request =
+    concluded content request (drawn content seen)
+    (document_step (setting_at content seen now) request (doc_of (map.get content.documents (document_key request.body))))
+
 -- The entries that a request appends to a history that comes to this content, and the reply, where this is the
--- greatest moment seen: levels aren't served yet, another vbucket isn't ours, and then comes the document.
-abbrev pub request_step : Content → ℕ → Request → List Entry × Reply
-request_step content seen request =
-    if is_some request.durability then ([], refused request.opcode request.opaque status.NOT_SUPPORTED)
-    else (if nat_eq request.vbucket VBUCKET
-    then concluded content request (drawn content seen)
-    (document_step request (doc_of (map.get content.documents (named_key request.body))) (drawn content seen))
-    else ([], refused request.opcode request.opaque status.NOT_MY_VBUCKET))
+-- greatest moment seen and that the request's own.
+abbrev pub request_step : Content → ℕ → ℕ → Request → List Entry × Reply
+request_step content seen now request =
+    option_map_or (λ refusing. ([], refused request.opcode request.opaque refusing)) (early_refusal request) (document_request content seen now request)
 
 -- a vbucket: what its history comes to, and the greatest moment that it has seen
 pub record Copy : Type 0 where
@@ -62,16 +78,24 @@ pub record Copy : Type 0 where
 abbrev pub new_copy : Copy
 new_copy = record { content = no_content; seen = 0 }
 
+-- a moment, of which the last ones aren't told apart
+abbrev pub moment_of : ℕ → ℕ
+moment_of now = min now LAST_MOMENT
+
 -- the greatest moment seen, once this one is seen
 abbrev pub seen_with : ℕ → ℕ → ℕ
-seen_with seen now = max seen (min now LAST_MOMENT)
+seen_with seen now = max seen (moment_of now)
+
+-- what a request at a moment appends and answers
+abbrev pub step_at : Copy → Request → ℕ → List Entry × Reply
+step_at copy request now = request_step copy.content (seen_with copy.seen now) (moment_of now) request
 
 -- what a request at a moment answers, and what the vbucket is afterwards
 abbrev pub answered : Copy → Request → ℕ → Reply
-answered copy request now = (request_step copy.content (seen_with copy.seen now) request).1
+answered copy request now = (step_at copy request now).1
 
 abbrev pub after : Copy → Request → ℕ → Copy
-after copy request now = record { content = with_entries copy.content (request_step copy.content (seen_with copy.seen now) request).0; seen = seen_with copy.seen now }
+after copy request now = record { content = with_entries copy.content (step_at copy request now).0; seen = seen_with copy.seen now }
 
 -- A request was answered: by the step, or by Enomem with the vbucket as it was.
 abbrev pub Answers : Copy → Request → ℕ → Copy → Reply → Type 0
@@ -79,20 +103,9 @@ Answers old request now new reply =
     ((new ≡ after old request now) × (reply ≡ answered old request now))
     ⊎ ((new ≡ old) × (reply ≡ refused request.opcode request.opaque status.ENOMEM))
 
--- what planning a request came to: the document step, unless memory was refused
-abbrev pub Plans : Result Change Status → Result Change Refused → Type 0
-Plans step (Ok change) = step ≡ Ok change
-Plans step (Err (refusals.Status refusing)) = step ≡ Err refusing
-Plans step (Err refusals.NoMemory) = Unit {0}
-
--- a document that a reply can carry
-pub record IsSmall (doc : Doc) : Type 0 where
-  pub value : length doc.value ≤ VALUE_LIMIT
-  pub cas : doc.cas < 2 ^ 64
-
 -- every document is one that a reply can carry
 abbrev pub AreSmall : map.FinMap key_cmp What → Type 0
-AreSmall documents = (key : DocKey) (doc : Doc) → map.get documents key ≡ Some (whats.Put doc) → IsSmall doc
+AreSmall documents = (key : DocKey) (doc : Doc) → map.get documents key ≡ Some (whats.Put doc) → IsSmallDoc doc
 
 -- a vbucket as numbers and a map
 abbrev pub coded_copy : Coded (map.FinMap key_cmp What) → Coded Copy

@@ -1,18 +1,34 @@
 //! What a change does to the documents, and what it draws.
 
-ghost use Rattle.std.specs.Prelude.{◌≡◌, ◌+◌, ◌*◌, ◌^◌, ◌≤◌, max, IfOk, OnOk, OnErr};
+ghost use Rattle.std.specs.Prelude.{◌≡◌, ◌+◌, ◌*◌, ◌^◌, ◌≤◌, max, IfOk, OnOk, OnErr, IsSome};
 ghost use Rattle.std.specs.Option.{option_copied};
 ghost use Rattle.std.specs.FinMap as map;
-ghost use Rattle.vb_core.specs.Documents.{doc_of, named_key};
-ghost use Rattle.vb_core.specs.Step.{with_token};
-ghost use Rattle.vb_core.specs.Changing.{changes, documents_with};
+ghost use Rattle.kv_request.specs.Tables.{key_named, document_key};
+ghost use Rattle.doc_step.specs.Step.{tells_token};
+ghost use Rattle.doc_step.specs.Laws.{HasSmallInitial};
+ghost use Rattle.vb_core.specs.Log.{doc_of};
+ghost use Rattle.vb_core.specs.Step.{changes, with_token, early_refusal};
+ghost use Rattle.vb_core.specs.Changing.{documents_with};
 
-use crate::planning::{Change, Effect};
-use crate::vb::{LAST_MOMENT, TERM};
-use doc_model::{Doc, DocKey, KeyMap, What};
+use crate::vb::{LAST_MOMENT, TERM, VBUCKET};
+use doc_model::{Doc, DocKey, KeyMap, Status, What};
+use doc_step::{Change, Effect};
 use kv_edge::{Copied, NoMemory};
-use kv_request::{Body, Reply};
+use kv_request::{Body, Reply, Request};
 use std::alloc::Global;
+
+/// Why a request is refused whatever its document is.
+pub(crate) fn refused_early(request: &Request) -> Option<Status>
+    ensures { result ≡ early_refusal request.now }
+{
+    if request.durability.is_some() {
+        return Some(Status::NOT_SUPPORTED);
+    }
+    if request.vbucket != VBUCKET {
+        return Some(Status::NOT_MY_VBUCKET);
+    }
+    None
+}
 
 /// The CAS that a change draws, unless it passes 64 bits.
 pub(crate) fn draw(greatest_cas: u64, seen: u64) -> Result<u64, NoMemory>
@@ -35,14 +51,23 @@ pub(crate) fn next_position(position: u64) -> Result<u64, NoMemory>
     }
 }
 
-/// The key that a request names.
+/// The key that a request names. An initial value that comes with it is read, so that its range is known.
 pub(crate) fn name_of(body: &Body) -> &DocKey
-    ensures { result.now ≡ named_key body.now }
+    requires { IsSome (key_named body.now) }
+    ensures key { result.now ≡ document_key body.now }
+    ensures initial { HasSmallInitial body.now }
 {
     match body {
+        Body::Hello { wanted: _ } | Body::Noop | Body::Version | Body::Quit => unreachable!(),
         Body::Get { key } => key,
         Body::Store { key, .. } => key,
         Body::Delete { key } => key,
+        Body::Count { key, initial, .. } => {
+            let _initial = *initial;
+            key
+        }
+        Body::Join { key, .. } => key,
+        Body::Touch { key, .. } => key,
     }
 }
 
@@ -56,6 +81,13 @@ pub(crate) fn document_at<'a>(documents: &'a KeyMap<What>, key: &DocKey) -> Opti
     }
 }
 
+/// Whether the reply to a change tells term and position.
+fn tells_token(body: &Body) -> bool
+    ensures { result ≡ tells_token body.now }
+{
+    !matches!(body, Body::Touch { .. })
+}
+
 /// A reply, and whether there was a change.
 #[derive(Drop)]
 pub(crate) struct Made {
@@ -63,42 +95,41 @@ pub(crate) struct Made {
     pub(crate) changed: bool,
 }
 
-/// Makes a change at this position. At `Err` the documents are as before.
+/// Makes a change of the key's document at this position. At `Err` the documents are as before.
 pub(crate) fn make(
     alloc: Global,
     documents: &mut KeyMap<What>,
-    key: &DocKey,
+    body: &Body,
     change: Change,
     cas: u64,
     position: u64,
 ) -> Result<Made, NoMemory>
-    ensures reply { IfOk result (λ made. made.reply ≡ with_token change.effect position change.reply) }
+    requires { IsSome (key_named body.now) }
+    ensures reply { IfOk result (λ made. made.reply ≡ with_token body.now change.effect position change.reply) }
     ensures changed { IfOk result (λ made. made.changed ≡ changes change.effect) }
-    ensures documents { OnOk result (documents.new ≡ documents_with documents.old key.now change.effect cas position) }
+    ensures documents { OnOk result (documents.new ≡ documents_with documents.old (document_key body.now) change.effect cas position) }
     ensures err { OnErr result (documents.new ≡ documents.old) }
 {
     let Change { effect, mut reply } = change;
-    match effect {
-        Effect::Nothing => Ok(Made {
-            reply,
-            changed: false,
-        }),
+    let what = match effect {
+        Effect::Nothing => {
+            return Ok(Made {
+                reply,
+                changed: false,
+            });
+        }
         Effect::Put(mut doc) => {
             doc.seqno = position;
-            documents.insert(key.copy(alloc)?, What::Put(doc))?;
-            reply.token = Some((TERM, position));
-            Ok(Made {
-                reply,
-                changed: true,
-            })
+            What::Put(doc)
         }
-        Effect::Remove => {
-            documents.insert(key.copy(alloc)?, What::Remove(cas))?;
-            reply.token = Some((TERM, position));
-            Ok(Made {
-                reply,
-                changed: true,
-            })
-        }
+        Effect::Remove => What::Remove(cas),
+    };
+    documents.insert(name_of(body).copy(alloc)?, what)?;
+    if tells_token(body) {
+        reply.token = Some((TERM, position));
     }
+    Ok(Made {
+        reply,
+        changed: true,
+    })
 }

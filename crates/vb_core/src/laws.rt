@@ -1,34 +1,39 @@
 //! What those who use documents rely on, as laws of the step that `Vb::request` makes.
 
-ghost use Rattle.std.specs.Prelude.{◌≡◌, ◌≢◌, ℕ, List};
+ghost use Rattle.std.specs.Prelude.{◌≡◌, ◌≢◌, ◌≤◌, ◌⊎◌, ℕ, List};
 ghost use Rattle.std.specs.List.{AllByRecursion};
 ghost use Rattle.std.specs.FinMap as map;
 ghost use Rattle.doc_model.specs.declared.key.DocKey.{DocKey};
 ghost use Rattle.kv_request.specs.declared.request.Request.{Request};
-ghost use Rattle.vb_core.specs.Documents.{named_key};
+ghost use Rattle.kv_request.specs.Tables.{document_key};
 ghost use Rattle.vb_core.specs.Step.{Copy, after, answered};
-ghost use Rattle.vb_core.specs.Runs.{Event, after_all, IsGet, IsSet, IsDelete, Leaves, Carries};
+ghost use Rattle.vb_core.specs.Runs.{Event, after_all, IsGet, IsSet, IsDelete, Outlasts, Leaves, Carries};
 
 use crate::vb::{LAST_MOMENT, TERM, VBUCKET};
 use doc_model::Status;
 
-/// A Get answers what the last Set of its key stored, unless a Delete came between, whatever else came.
+/// A Get answers what the last Set of its key stored, where that didn't expire and no other request changed the
+/// document between, whatever else came.
 pub fn get_answers_what_was_stored()
-    ensures { (copy : Copy) (set get : Event) (between : List Event) (key : DocKey) (flags : ℕ) (value : List ℕ) →
-        IsSet set.request key flags value → AllByRecursion (Leaves key) between → IsGet get.request key →
+    ensures { (copy : Copy) (set get : Event) (between : List Event) (key : DocKey) (flags expiry : ℕ) (value : List ℕ) →
+        IsSet set.request key flags expiry value → AllByRecursion (Leaves key) between → IsGet get.request key →
+        Outlasts set.now expiry get.now →
         Carries (answered (after_all (after copy set.request set.now) between) get.request get.now) flags value }
 {}
 
-/// A Get misses what was deleted, unless a Set of its key came between, whatever else came.
+/// A Get misses what was deleted, where no other request changed the document between, whatever else came. A Delete
+/// that isn't answered Success deleted nothing, since none was there at its moment: then a Get misses that comes no
+/// earlier, for a document whose expiry had passed is there again at an earlier moment.
 pub fn get_misses_what_was_deleted()
     ensures { (copy : Copy) (delete get : Event) (between : List Event) (key : DocKey) →
         IsDelete delete.request key → AllByRecursion (Leaves key) between → IsGet get.request key →
+        ((answered copy delete.request delete.now).status ≡ Status.SUCCESS) ⊎ (delete.now ≤ get.now) →
         (answered (after_all (after copy delete.request delete.now) between) get.request get.now).status ≡ Status.KEY_ENOENT }
 {}
 
 /// A request of one key changes no other key.
 pub fn other_keys_stay()
-    ensures { (copy : Copy) (request : Request) (now : ℕ) (other : DocKey) → other ≢ named_key request.body →
+    ensures { (copy : Copy) (request : Request) (now : ℕ) (other : DocKey) → other ≢ document_key request.body →
         map.get (after copy request now).content.documents other ≡ map.get copy.content.documents other }
 {}
 

@@ -1,10 +1,11 @@
-ghost use Rattle.std.specs.Prelude.{◌≡◌, IfOk, OnOk, OnErr};
-ghost use Rattle.kv_request.specs.Tables.{IsRequest, IsReply};
-ghost use Rattle.vb_core.specs.Step.{new_copy, after, answered, Answers};
+ghost use Rattle.std.specs.Prelude.{◌≡◌, ◌≤◌, IfOk, IsSome, OnOk, OnErr};
+ghost use Rattle.kv_request.specs.Tables.{IsRequest, IsReply, key_named};
+ghost use Rattle.vb_core.specs.Log.{with_entries};
+ghost use Rattle.vb_core.specs.Step.{new_copy, document_request, after, answered, Answers};
 
-use crate::changing::{document_at, draw, make, name_of, next_position};
-use crate::planning::plan;
+use crate::changing::{document_at, draw, make, name_of, next_position, refused_early};
 use doc_model::{KeyMap, Refused, Status, What};
+use doc_ops::plan;
 use kv_edge::NoMemory;
 use kv_request::{Reply, Request, refusal};
 use std::alloc::Global;
@@ -63,10 +64,11 @@ impl Vb {
         })
     }
 
-    /// Answers a request at a moment, in milliseconds since 1970. Where memory is refused, or a number would pass 64
-    /// bits, the reply is Enomem and the vbucket is as before.
+    /// Answers a request on a document at a moment, in milliseconds since 1970. Where memory is refused, or a number
+    /// would pass 64 bits, the reply is Enomem and the vbucket is as before.
     pub fn request(&mut self, request: &Request, now: u64) -> Reply
-        requires { IsRequest request.now }
+        requires request { IsRequest request.now }
+        requires document { IsSome (key_named request.now.body) }
         ensures answer { Answers self.old request.now now self.new result }
         ensures fits { IsReply result }
     {
@@ -78,48 +80,53 @@ impl Vb {
 
     /// The answer of the step. At `Err` the vbucket is as before.
     fn answer(&mut self, request: &Request, now: u64) -> Result<Reply, NoMemory>
-        requires { IsRequest request.now }
+        requires request { IsRequest request.now }
+        requires document { IsSome (key_named request.now.body) }
         ensures new { OnOk result (self.new ≡ after self.old request.now now) }
         ensures reply { IfOk result (λ reply. reply ≡ answered self.old request.now now) }
         ensures fits { IfOk result IsReply }
         ensures err { OnErr result (self.new ≡ self.old) }
     {
-        let seen = self.seen.max(now.min(LAST_MOMENT));
-        if request.durability.is_some() {
-            self.seen = seen;
-            return Ok(refusal(
-                self.alloc,
-                request.opcode,
-                request.opaque,
-                Status::NOT_SUPPORTED,
-            ));
-        }
-        if request.vbucket != VBUCKET {
-            self.seen = seen;
-            return Ok(refusal(
-                self.alloc,
-                request.opcode,
-                request.opaque,
-                Status::NOT_MY_VBUCKET,
-            ));
-        }
+        let now = now.min(LAST_MOMENT);
+        let seen = self.seen.max(now);
+        let reply = match refused_early(request) {
+            Some(status) => refusal(self.alloc, request.opcode, request.opaque, status),
+            None => self.operate(request, seen, now)?,
+        };
+        self.seen = seen;
+        Ok(reply)
+    }
+
+    /// The answer to a request on a document of ours, where `seen` is the greatest moment seen. At `Err` the vbucket is
+    /// as before.
+    fn operate(&mut self, request: &Request, seen: u64, now: u64) -> Result<Reply, NoMemory>
+        requires request { IsRequest request.now }
+        requires document { IsSome (key_named request.now.body) }
+        requires seen { seen ≤ LAST_MOMENT }
+        ensures new { OnOk result (self.new ≡ record self.old { content = with_entries self.old.content (document_request self.old.content seen now request.now).0 }) }
+        ensures reply { IfOk result (λ reply. reply ≡ (document_request self.old.content seen now request.now).1) }
+        ensures fits { IfOk result IsReply }
+        ensures err { OnErr result (self.new ≡ self.old) }
+    {
         let cas = draw(self.greatest_cas, seen)?;
         let position = next_position(self.position)?;
-        let key = name_of(&request.body);
-        match plan(self.alloc, request, document_at(&self.documents, key), cas) {
+        let doc = document_at(&self.documents, name_of(&request.body));
+        match plan(self.alloc, request, doc, 0, now, cas) {
             Ok(change) => {
-                let made = make(self.alloc, &mut self.documents, key, change, cas, position)?;
+                let documents = &mut self.documents;
+                let made = make(self.alloc, documents, &request.body, change, cas, position)?;
                 if made.changed {
                     self.greatest_cas = cas;
                     self.position = position;
                 }
-                self.seen = seen;
                 Ok(made.reply)
             }
-            Err(Refused::Status(status)) => {
-                self.seen = seen;
-                Ok(refusal(self.alloc, request.opcode, request.opaque, status))
-            }
+            Err(Refused::Status(status)) => Ok(refusal(
+                self.alloc,
+                request.opcode,
+                request.opaque,
+                status,
+            )),
             Err(Refused::NoMemory) => Err(NoMemory),
         }
     }
