@@ -1,5 +1,6 @@
-pub mod Frames
-pub mod Replying
-pub mod Running
+pub mod Answering
+pub mod Counting
 pub mod Ending
+pub mod Running
 pub mod Same
+pub mod Snoc

@@ -1,116 +1,180 @@
--- A run of `pipe` goes on by a frame, and by a piece that is written.
-use Rattle.std.proofs.Common.{◌≡◌, ℕ, ◌+◌, List, [], ◌∷◌, ◌++◌, take, drop, Option, ◌⊎◌, inl, inr, refl, sym, ap, subst, ◌∙◌, append_assoc, append-nil, arith}
-use Rattle.std.proofs.Math.Seq.{take-add}
-use Rattle.std.proofs.lemmas.List.{length-drop}
-use Rattle.std.proofs.lemmas.Grind.{flat_map-append}
-use Rattle.std.specs.List.{AllByRecursion, flat_map}
-use Rattle.kv_edge.specs.Edge.{PutAll}
-use Rattle.kv_edge.proofs.Known.{put_more, put_nothing}
+-- A run of `pipe` goes on.
+use Rattle.std.proofs.Common.{◌≡◌, ℕ, ◌+◌, ◌≤◌, List, [], ◌∷◌, ◌++◌, length, take, drop, Option, inl, inr, refl, sym, ap, subst, ◌∙◌, append_assoc, append-nil, take-append-drop, length-append, length-drop, arith}
+use Rattle.std.proofs.lemmas.List.{length-take-le}
+use Rattle.kv_edge.specs.Edge.{TookAll, PutAll}
+use Rattle.kv_edge.proofs.Known.{took_more, put_more, took_nothing, put_nothing}
 use Rattle.kv_frame.specs.declared.frame.Frame.{Frame}
-use Rattle.kv_frame.specs.Grammar.{spelling}
 use Rattle.kv_request.specs.declared.reply.Reply.{Reply}
-use Rattle.kv_request.specs.Tables.{frame, refused}
-use Rattle.doc_model.specs.declared.status.TheConstants.Status as status
-use Rattle.vb_core.specs.Log.{Entry, Content, no_content, content_of, with_entries-append}
-use Rattle.kv_tool.specs.Pipe.{no_features, IsPlainRequest, frame_step, AreReplies, AnswersFrame, frame_bytes}
-use Rattle.kv_tool.specs.Progress.{BeginsPlain, AppendsReply, Runs, Progress, AnswersNext}
+use Rattle.kv_session.specs.Answers.{Made, Passed, Told, made_by}
+use Rattle.kv_session.specs.Cutting.{Standing, at_start, behind_all, IsRead}
+use Rattle.kv_session.specs.Sending.{sent_bytes}
+use Rattle.kv_session.specs.Session.{Line}
+use Rattle.vb_core.specs.Log.{Entry, Content, no_content, content_of, with_entries, with_entries-append}
+use Rattle.vb_core.specs.Step.{Copy, moment_of, seen_with, request_step, step_at}
+use Rattle.kv_tool.specs.declared.connection.Connection.{Connection}
+use Rattle.kv_tool.specs.declared.piping.TheConstants.{INPUT_LIMIT}
+use Rattle.kv_tool.specs.Pipe.{IsAnswer}
+use Rattle.kv_tool.specs.Outcomes.{Seen}
+use Rattle.kv_tool.specs.Progress.{IsNew, standing, Replies, AnswersOne, FeedsOn, Progress}
+use Rattle.kv_tool.proofs.Snoc.{behind_one, stands_more, read_more, read_further, replies_more, reply_bytes_more}
 
--- one frame is answered over this history, which then is that
-abbrev pub Answered : ℕ → List Entry → Frame → Reply → List Entry → Type 0
-Answered now log f reply end =
-    ((reply ≡ (frame_step now log f).1) × (end ≡ log ++ (frame_step now log f).0))
-    ⊎ ((reply ≡ refused f.opcode f.opaque status.ENOMEM) × (end ≡ log))
-
--- a run of one frame
-one_run : (now : ℕ) (log : List Entry) (f : Frame) (reply : Reply) (end : List Entry) → Answered now log f reply end → Runs now log (f ∷ []) (reply ∷ []) end
-one_run now log f reply end (inl step) = inl step
-one_run now log f reply end (inr refusal) = inr refusal
-
--- a run goes on by one frame
-pub runs_more : (now : ℕ) (log : List Entry) (fs : List Frame) (replies : List Reply) (mid : List Entry) (f : Frame) (reply : Reply) (end : List Entry) → Runs now log fs replies mid → Answered now mid f reply end → Runs now log (fs ++ f ∷ []) (replies ++ reply ∷ []) end
-runs_more now log [] [] mid f reply end run next =
-    one_run now log f reply end (subst (λ (l : List Entry). Answered now l f reply end) run next)
-runs_more now log [] (other ∷ replies) mid f reply end run next = absurd run
-runs_more now log (g ∷ fs) [] mid f reply end run next = absurd run
-runs_more now log (g ∷ fs) (other ∷ replies) mid f reply end (inl run) next =
-    inl (run.0, runs_more now (log ++ (frame_step now log g).0) fs replies mid f reply end run.1 next)
-runs_more now log (g ∷ fs) (other ∷ replies) mid f reply end (inr run) next =
-    inr (run.0, runs_more now log fs replies mid f reply end run.1 next)
-
--- what a run answers are replies
-pub are_replies : (now : ℕ) (log : List Entry) (fs : List Frame) (replies : List Reply) (end : List Entry) → Runs now log fs replies end → AreReplies now log fs replies
-are_replies now log [] [] end run = tt
-are_replies now log [] (reply ∷ replies) end run = run
-are_replies now log (f ∷ fs) [] end run = run
-are_replies now log (f ∷ fs) (reply ∷ replies) end (inl run) = inl (run.0, are_replies now (log ++ (frame_step now log f).0) fs replies end run.1)
-are_replies now log (f ∷ fs) (reply ∷ replies) end (inr run) = inr (run.0, are_replies now log fs replies end run.1)
-
--- what a frame does to what a history comes to, it does to the history
-pub answered_log : (now : ℕ) (log : List Entry) (f : Frame) (new : Content) (reply : Reply) → AnswersFrame now (content_of log) f new reply → (end : List Entry) × Answered now log f reply end × (new ≡ content_of end)
-answered_log now log f new reply (inl step) =
-    (log ++ (frame_step now log f).0, inl (step.0, refl), step.1 ∙ sym (with_entries-append no_content log (frame_step now log f).0))
-answered_log now log f new reply (inr refusal) = (log, inr (refusal.0, refl), refusal.1)
-
--- one more at the end
-pub all_more : {X : Type 0} (P : X → Type 0) (xs : List X) (x : X) → AllByRecursion P xs → P x → AllByRecursion P (xs ++ x ∷ [])
-all_more P [] x all here = (here, tt)
-all_more P (y ∷ ys) x all here = (all.0, all_more P ys x all.1 here)
-
--- the bytes of one more
-pub bytes_more : {X : Type 0} (f : X → List ℕ) (xs : List X) (x : X) → flat_map f (xs ++ x ∷ []) ≡ flat_map f xs ++ f x
-bytes_more f xs x = flat_map-append f xs (x ∷ []) ∙ ap (λ l. flat_map f xs ++ l) (append-nil (f x))
-
--- before the first frame
-pub starts : (now : ℕ) (input : List ℕ) (known : Option (List ℕ)) (content : Content) (out : List ℕ) → content ≡ no_content → out ≡ [] → Progress now input 0 content out known known
-starts now input known content out fresh empty = record {
-  log = [];
+-- before the first byte
+pub starts : (now : ℕ) (left written : Option (List ℕ)) (new : Connection) → IsNew new → Progress now (record { left_before = left; left_now = left; written_before = written; written_now = written }) [] new
+starts now left written new fresh = record {
+  fed = [];
   frames = [];
   replies = [];
+  log = [];
   sent = [];
-  within = omega arith;
-  spelled = refl;
-  plain = tt;
-  runs = refl;
-  comes_to = fresh;
-  wrote = put_nothing known;
-  gathered = sym empty;
+  took = took_nothing left;
+  small = omega arith;
+  count = fresh.fed;
+  read = record { spelled = sym (ap (λ (l : Line). l.held) fresh.session); sent = tt; open_before = tt };
+  stands = ap standing fresh.session;
+  answered = refl;
+  comes_to = ap (λ (v : Copy). v.content) fresh.vb;
+  early = omega (arith, ap (λ (v : Copy). v.seen) fresh.vb);
+  wrote = put_nothing written;
+  gathered = sym fresh.out;
 }
 
--- a frame is answered
-pub goes_on : (now : ℕ) (input : List ℕ) (place used : ℕ) (old new : Content) (before after : List ℕ) (known written : Option (List ℕ)) (f : Frame) → Progress now input place old before known written → BeginsPlain (drop place input) f used → AppendsReply now old f new before after → Progress now input (place + used) new after known written
-goes_on now input place used old new before after known written f p begins (reply, answers, appended) =
-    let logged = answered_log now p.log f new reply (subst (λ (c : Content). AnswersFrame now c f new reply) p.comes_to answers) in
-    record {
-      log = logged.0;
-      frames = p.frames ++ f ∷ [];
-      replies = p.replies ++ reply ∷ [];
-      sent = p.sent;
-      within = omega (arith, p.within, begins.within, length-drop place input);
-      spelled = take-add place used input ∙ ap (λ l. l ++ take used (drop place input)) p.spelled ∙ ap (λ l. frame_bytes p.frames ++ l) begins.spelled ∙ sym (bytes_more spelling p.frames f);
-      plain = all_more IsPlainRequest p.frames f p.plain begins.plain;
-      runs = runs_more now [] p.frames p.replies p.log f reply logged.0 p.runs logged.1;
-      comes_to = logged.2;
-      wrote = p.wrote;
-      gathered = bytes_more (λ (r : Reply). spelling (frame no_features r)) p.replies reply ∙ ap (λ l. l ++ spelling (frame no_features reply)) p.gathered ∙ append_assoc p.sent before (spelling (frame no_features reply)) ∙ ap (λ l. p.sent ++ l) (sym appended);
-    }
-
--- a front of the gathered bytes is written
-pub writes_on : (now : ℕ) (input : List ℕ) (place : ℕ) (content : Content) (front old new : List ℕ) (known written after : Option (List ℕ)) → Progress now input place content old known written → PutAll written after front → old ≡ front ++ new → Progress now input place content new known after
-writes_on now input place content front old new known written after p put split = record {
-  log = p.log;
+-- a piece was taken
+pub takes : (now : ℕ) (seen : Seen) (connection : Connection) (left : Option (List ℕ)) (piece : List ℕ) → Progress now seen [] connection → TookAll seen.left_now left piece → connection.fed + length piece ≤ INPUT_LIMIT
+    → Progress now (record seen { left_now = left }) piece connection
+takes now seen connection left piece p took small = record {
+  fed = p.fed;
   frames = p.frames;
   replies = p.replies;
-  sent = p.sent ++ front;
-  within = p.within;
-  spelled = p.spelled;
-  plain = p.plain;
-  runs = p.runs;
+  log = p.log;
+  sent = p.sent;
+  took = subst (λ (l : List ℕ). TookAll seen.left_before left (l ++ piece)) (append-nil p.fed) (took_more seen.left_before seen.left_now left (p.fed ++ []) piece p.took took);
+  small = omega (arith, p.count);
+  count = p.count;
+  read = p.read;
+  stands = p.stands;
+  answered = p.answered;
   comes_to = p.comes_to;
-  wrote = put_more known written after p.sent front p.wrote put;
-  gathered = p.gathered ∙ ap (λ l. p.sent ++ l) split ∙ sym (append_assoc p.sent front new);
+  early = p.early;
+  wrote = p.wrote;
+  gathered = p.gathered;
 }
 
--- the next frame is answered
-pub answered_next : (now : ℕ) (input : List ℕ) (place used : ℕ) (rest : List ℕ) (old new : Content) (before after : List ℕ) (known written : Option (List ℕ)) → Progress now input place old before known written → rest ≡ drop place input → AnswersNext now rest used old new before after → Progress now input (place + used) new after known written
-answered_next now input place used rest old new before after known written p left next =
-    goes_on now input place used old new before after known written next.first p (subst (λ (l : List ℕ). BeginsPlain l next.first used) left next.begins) next.appends
+-- bytes were fed
+pub feeds : (now : ℕ) (seen : Seen) (unfed : List ℕ) (old new : Connection) (n : ℕ) → Progress now seen unfed old → FeedsOn old unfed new n → Progress now seen (drop n unfed) new
+feeds now seen unfed old new n p fed =
+    let line = ap (λ (c : Connection). c.session) fed.others in
+    let more : List ℕ = take n unfed in
+    let count : length more ≡ n = length-take-le n unfed fed.feeds.within in
+    record {
+      fed = p.fed ++ more;
+      frames = p.frames;
+      replies = p.replies;
+      log = p.log;
+      sent = p.sent;
+      took = subst (λ (l : List ℕ). TookAll seen.left_before seen.left_now l) (ap (λ (l : List ℕ). p.fed ++ l) (sym (take-append-drop n unfed)) ∙ sym (append_assoc p.fed more (drop n unfed))) p.took;
+      small = omega (arith, p.small, count, length-append p.fed more, length-drop n unfed, fed.feeds.within);
+      count = ap (λ (c : Connection). c.fed) fed.others ∙ omega (arith, p.count, count, length-append p.fed more);
+      read = subst (λ (l : Line). IsRead (p.fed ++ more) p.frames l.held) (sym fed.feeds.taken) (read_further p.fed p.frames old.session.held more p.read);
+      stands = ap standing fed.feeds.taken ∙ p.stands;
+      answered = p.answered;
+      comes_to = ap (λ (c : Connection). c.vb.content) fed.others ∙ p.comes_to;
+      early = omega (arith, ap (λ (c : Connection). c.vb.seen) fed.others, p.early);
+      wrote = p.wrote;
+      gathered = p.gathered ∙ ap (λ (c : Connection). p.sent ++ c.out.items) (sym fed.others);
+    }
+
+-- a front of what is gathered was written
+pub writes : (now : ℕ) (seen : Seen) (unfed : List ℕ) (old new : Connection) (before after : Option (List ℕ)) (front : List ℕ) → Progress now (record seen { written_now = before }) unfed old
+    → new ≡ record old { out = new.out } → PutAll before after front → old.out.items ≡ front ++ new.out.items → Progress now (record seen { written_now = after }) unfed new
+writes now seen unfed old new before after front p others put split = record {
+  fed = p.fed;
+  frames = p.frames;
+  replies = p.replies;
+  log = p.log;
+  sent = p.sent ++ front;
+  took = p.took;
+  small = p.small;
+  count = ap (λ (c : Connection). c.fed) others ∙ p.count;
+  read = subst (λ (c : Connection). IsRead p.fed p.frames c.session.held) (sym others) p.read;
+  stands = ap (λ (c : Connection). standing c.session) others ∙ p.stands;
+  answered = p.answered;
+  comes_to = ap (λ (c : Connection). c.vb.content) others ∙ p.comes_to;
+  early = omega (arith, ap (λ (c : Connection). c.vb.seen) others, p.early);
+  wrote = put_more seen.written_before before after p.sent front p.wrote put;
+  gathered = p.gathered ∙ ap (λ (l : List ℕ). p.sent ++ l) split ∙ sym (append_assoc p.sent front new.out.items);
+}
+
+-- ---- a frame
+
+-- the greatest moment seen is that of the run
+same_moment : (seen now : ℕ) → seen ≤ moment_of now → seen_with seen now ≡ moment_of now
+same_moment seen now early = omega arith
+
+-- the vbucket stays
+record Stays (now : ℕ) (log : List Entry) (new : Copy) : Type 0 where
+  content : new.content ≡ content_of (log ++ [])
+  early : new.seen ≤ moment_of now
+
+stays : (now : ℕ) (log : List Entry) (old new : Copy) → old.content ≡ content_of log → old.seen ≤ moment_of now → new ≡ old → Stays now log new
+stays now log old new comes_to early same = record {
+  content = ap (λ (v : Copy). v.content) same ∙ comes_to ∙ ap content_of (sym (append-nil log));
+  early = omega (arith, ap (λ (v : Copy). v.seen) same, early);
+}
+
+-- what the vbucket answers is an answer over its history
+pub answer_of : (now : ℕ) (log : List Entry) (old new : Copy) (m : Made) (reply : Reply) → old.content ≡ content_of log → old.seen ≤ moment_of now → Replies now old m new reply
+    → (entries : List Entry) × IsAnswer now log m entries reply × (new.content ≡ content_of (log ++ entries)) × (new.seen ≤ moment_of now)
+answer_of now log old new (Told own features quit) reply comes_to early (same, is) =
+    let s = stays now log old new comes_to early same in
+    ([], (refl, is), s.content, s.early)
+answer_of now log old new (Passed made) reply comes_to early (inr (same, is)) =
+    let s = stays now log old new comes_to early same in
+    ([], inr (refl, is), s.content, s.early)
+answer_of now log old new (Passed made) reply comes_to early (inl (is, replied)) =
+    let moment : ℕ = moment_of now in
+    let step : List Entry × Reply = request_step (content_of log) moment moment made in
+    let same : step_at old made now ≡ step =
+    ap (λ (seen : ℕ). request_step old.content seen moment made) (same_moment old.seen now early)
+    ∙ ap (λ (c : Content). request_step c moment moment made) comes_to in (
+      step.0,
+      inl (ap (λ (r : Reply). (step.0, r)) (replied ∙ ap (λ (s : List Entry × Reply). s.1) same)),
+      ap (λ (v : Copy). v.content) is
+          ∙ ap (λ (s : List Entry × Reply). with_entries old.content s.0) same
+          ∙ ap (λ (c : Content). with_entries c step.0) comes_to
+          ∙ sym (with_entries-append no_content log step.0),
+      omega (arith, ap (λ (v : Copy). v.seen) is, same_moment old.seen now early),
+    )
+
+-- a frame was answered
+pub answers : (now : ℕ) (seen : Seen) (unfed : List ℕ) (old new : Connection) → Progress now seen unfed old → AnswersOne now old new → Progress now seen unfed new
+answers now seen unfed old new p one =
+    let f : Frame = one.first in
+    let before : Standing = behind_all at_start p.frames in
+    let replies : Replies now old.vb (made_by before.features f) new.vb one.reply =
+    subst (λ (s : Standing). Replies now old.vb (made_by s.features f) new.vb one.reply) p.stands one.replies in
+    let answer = answer_of now p.log old.vb new.vb (made_by before.features f) one.reply p.comes_to p.early replies in
+    let behind : standing new.session ≡ behind_one before f = one.stands ∙ ap (λ (s : Standing). behind_one s f) p.stands in
+    record {
+      fed = p.fed;
+      frames = p.frames ++ f ∷ [];
+      replies = p.replies ++ one.reply ∷ [];
+      log = p.log ++ answer.0;
+      sent = p.sent;
+      took = p.took;
+      small = p.small;
+      count = one.fed ∙ p.count;
+      read =
+          subst (λ (l : List ℕ). IsRead p.fed (p.frames ++ f ∷ []) l) (sym one.left)
+          (read_more p.fed p.frames old.session.held f one.used p.read (ap (λ (s : Standing). s.quit) (sym p.stands) ∙ one.going) one.begins);
+      stands = behind ∙ sym (stands_more at_start p.frames f);
+      answered = replies_more now at_start [] p.frames p.replies p.log f answer.0 one.reply p.answered answer.1;
+      comes_to = answer.2;
+      early = answer.3;
+      wrote = p.wrote;
+      gathered =
+          reply_bytes_more now at_start [] p.frames p.replies p.log f one.reply p.answered
+          ∙ ap (λ (l : List ℕ). l ++ sent_bytes (behind_one before f).features one.reply) p.gathered
+          ∙ append_assoc p.sent old.out.items (sent_bytes (behind_one before f).features one.reply)
+          ∙ ap (λ (s : Standing). p.sent ++ (old.out.items ++ sent_bytes s.features one.reply)) (sym behind)
+          ∙ ap (λ (l : List ℕ). p.sent ++ l) (sym one.gathered);
+    }

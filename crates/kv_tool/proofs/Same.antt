@@ -1,57 +1,55 @@
--- The frames of an input are determined, and so are the replies to them, as long as no memory is refused.
-use Rattle.std.proofs.Common.{◌≡◌, ◌≢◌, ℕ, ◌+◌, List, [], ◌∷◌, ◌++◌, length, refl, sym, ap, subst, ◌∙◌, append-nil, inl, inr, arith}
-use Rattle.std.proofs.lemmas.List.{append_cancel_left, length-append}
+-- The replies to frames are determined, as long as no memory is refused.
+use Rattle.std.proofs.Common.{◌≡◌, ◌≢◌, ℕ, List, [], ◌∷◌, ◌++◌, refl, sym, ap, subst, ◌∙◌, inl, inr}
 use Rattle.std.specs.List.{AllByRecursion}
 use Rattle.kv_frame.specs.declared.frame.Frame.{Frame}
-use Rattle.kv_frame.specs.declared.frame.Side.TheVariants.{Requests}
-use Rattle.kv_frame.specs.Grammar.{spelling, IsOfSide, IsFrame}
-use Rattle.kv_frame.proofs.Unique.{one_frame}
 use Rattle.kv_request.specs.declared.reply.Reply.{Reply}
 use Rattle.doc_model.specs.declared.status.TheConstants.Status as status
+use Rattle.kv_session.specs.Answers.{Made, Passed, Told, made_by}
+use Rattle.kv_session.specs.Cutting.{Standing, at_start, behind, IsDrained}
+use Rattle.kv_session.proofs.CuttingLaws.{one_reading}
 use Rattle.vb_core.specs.Log.{Entry}
-use Rattle.kv_tool.specs.Pipe.{IsPlainRequest, AreReplies, IsAnswered, frame_step, frame_bytes, reply_bytes}
-use Rattle.kv_tool.proofs.Frames.{spelling_some}
+use Rattle.kv_tool.specs.Pipe.{IsAnswer, AreReplies, IsServed, output}
 
 -- a reply that isn't Enomem
 abbrev pub IsGiven : Reply → Type 0
 IsGiven reply = reply.status ≢ status.ENOMEM
 
-is_frame : (f : Frame) → IsPlainRequest f → IsFrame Requests f (spelling f)
-is_frame f plain = record {
-  of_side = subst (IsOfSide Requests) (sym plain.magic) tt;
-  fits = plain.fits;
-  spelled = refl;
-}
+-- both are what a frame comes to
+record SameAnswer (entries others : List Entry) (reply answer : Reply) : Type 0 where
+  entries_same : entries ≡ others
+  reply_same : reply ≡ answer
 
--- a frame has bytes, whatever follows it
-not_nothing : (f : Frame) (more : List ℕ) → [] ≡ spelling f ++ more → ⊥
-not_nothing f more e =
-    let none : 0 ≡ length (spelling f) + length more = ap length e ∙ length-append (spelling f) more in
-    absurd (omega (arith, spelling_some f))
+same_answer : (now : ℕ) (log entries others : List Entry) (m : Made) (reply answer : Reply) → IsAnswer now log m entries reply → IsAnswer now log m others answer → IsGiven reply → IsGiven answer → SameAnswer entries others reply answer
+same_answer now log entries others (Told own features quit) reply answer (none, is) (empty, other) given told = record { entries_same = none ∙ sym empty; reply_same = is ∙ sym other }
+same_answer now log entries others (Passed made) reply answer (inl step) (inl other) given told =
+    let same : (entries, reply) ≡ (others, answer) = step ∙ sym other in
+    record { entries_same = ap (λ (p : List Entry × Reply). p.0) same; reply_same = ap (λ (p : List Entry × Reply). p.1) same }
+same_answer now log entries others (Passed made) reply answer (inl step) (inr (none, refusal)) given told = absurd (told (ap (λ (r : Reply). r.status) refusal))
+same_answer now log entries others (Passed made) reply answer (inr (none, refusal)) other given told = absurd (given (ap (λ (r : Reply). r.status) refusal))
 
-pub same_frames : (fs gs : List Frame) → AllByRecursion IsPlainRequest fs → AllByRecursion IsPlainRequest gs → frame_bytes fs ≡ frame_bytes gs → fs ≡ gs
-same_frames [] [] p q e = refl
-same_frames [] (g ∷ gs) p q e = absurd (not_nothing g (frame_bytes gs) e)
-same_frames (f ∷ fs) [] p q e = absurd (not_nothing f (frame_bytes fs) (sym e))
-same_frames (f ∷ fs) (g ∷ gs) p q e =
-    let first = one_frame Requests f g (spelling f) (spelling g) (frame_bytes fs) (frame_bytes gs) (is_frame f p.0) (is_frame g q.0) e in
-    let others : fs ≡ gs = same_frames fs gs p.1 q.1 (append_cancel_left (spelling g) (frame_bytes fs) (frame_bytes gs) (ap (λ (l : List ℕ). l ++ frame_bytes fs) (sym first.1) ∙ e)) in
-    ap (λ (h : Frame). h ∷ fs) first.0 ∙ ap (λ (hs : List Frame). g ∷ hs) others
+same_replies : (now : ℕ) (standing : Standing) (log : List Entry) (fs : List Frame) (replies answers : List Reply) (end other : List Entry) → AreReplies now standing log fs replies end → AreReplies now standing log fs answers other
+    → AllByRecursion IsGiven replies → AllByRecursion IsGiven answers → replies ≡ answers
+same_replies now standing log [] [] [] end other p q given told = refl
+same_replies now standing log [] [] (b ∷ answers) end other p q given told = absurd q
+same_replies now standing log [] (a ∷ replies) answers end other p q given told = absurd p
+same_replies now standing log (f ∷ fs) [] answers end other p q given told = absurd p
+same_replies now standing log (f ∷ fs) (a ∷ replies) [] end other p q given told = absurd q
+same_replies now standing log (f ∷ fs) (a ∷ replies) (b ∷ answers) end other (es, first, later) (gs, one, others) given told =
+    let m : Made = made_by standing.features f in
+    let same = same_answer now log es gs m a b first one given.0 told.0 in
+    let tails : replies ≡ answers =
+    same_replies now (behind standing m) (log ++ es) fs replies answers end other later
+    (subst (λ (l : List Entry). AreReplies now (behind standing m) (log ++ l) fs answers other) (sym same.entries_same) others)
+    given.1 told.1 in
+    ap (λ (r : Reply). r ∷ replies) same.reply_same ∙ ap (λ (rs : List Reply). b ∷ rs) tails
 
-pub same_replies : (now : ℕ) (log : List Entry) (fs : List Frame) (replies answers : List Reply) → AreReplies now log fs replies → AreReplies now log fs answers → AllByRecursion IsGiven replies → AllByRecursion IsGiven answers → replies ≡ answers
-same_replies now log [] [] [] p q given told = refl
-same_replies now log [] [] (b ∷ answers) p q given told = absurd q
-same_replies now log [] (a ∷ replies) answers p q given told = absurd p
-same_replies now log (f ∷ fs) [] answers p q given told = absurd p
-same_replies now log (f ∷ fs) (a ∷ replies) [] p q given told = absurd q
-same_replies now log (f ∷ fs) (a ∷ replies) (b ∷ answers) (inr p) q given told = absurd (given.0 (ap (λ (r : Reply). r.status) p.0))
-same_replies now log (f ∷ fs) (a ∷ replies) (b ∷ answers) (inl p) (inr q) given told = absurd (told.0 (ap (λ (r : Reply). r.status) q.0))
-same_replies now log (f ∷ fs) (a ∷ replies) (b ∷ answers) (inl p) (inl q) given told =
-    ap (λ (r : Reply). r ∷ replies) (p.0 ∙ sym q.0)
-    ∙ ap (λ (rs : List Reply). b ∷ rs) (same_replies now (log ++ (frame_step now log f).0) fs replies answers p.1 q.1 given.1 told.1)
-
-pub same_written : (now : ℕ) (input : List ℕ) (fs gs : List Frame) (replies answers : List Reply) → IsAnswered now input fs [] replies → IsAnswered now input gs [] answers → AllByRecursion IsGiven replies → AllByRecursion IsGiven answers → reply_bytes replies ≡ reply_bytes answers
-same_written now input fs gs replies answers p q given told =
-    let bytes : frame_bytes fs ≡ frame_bytes gs = sym (append-nil (frame_bytes fs)) ∙ sym p.spelled ∙ q.spelled ∙ append-nil (frame_bytes gs) in
-    let frames : fs ≡ gs = same_frames fs gs p.plain q.plain bytes in
-    ap reply_bytes (same_replies now [] gs replies answers (subst (λ (hs : List Frame). AreReplies now [] hs replies) frames p.answered) q.answered given told)
+pub same_output : (now : ℕ) (input : List ℕ) (frames others : List Frame) (rest left : List ℕ) (replies answers : List Reply)
+    → IsServed now input frames rest replies → IsDrained frames rest → IsServed now input others left answers → IsDrained others left → AllByRecursion IsGiven replies → AllByRecursion IsGiven answers
+    → (frames ≡ others) × (rest ≡ left) × (output frames replies ≡ output others answers)
+same_output now input frames others rest left replies answers served done other ended given told =
+    let same = one_reading input frames others rest left served.read done other.read ended in
+    let replied : replies ≡ answers =
+    same_replies now at_start [] frames replies answers served.log other.log served.answered
+    (subst (λ (fs : List Frame). AreReplies now at_start [] fs answers other.log) (sym same.0) other.answered)
+    given told in
+    (same.0, same.1, ap (λ (fs : List Frame). output fs replies) same.0 ∙ ap (output others) replied)

@@ -1,4 +1,4 @@
 pub mod Pipe
 pub mod Outcomes
-pub mod Statuses
 pub mod Progress
+pub mod Statuses

@@ -13,6 +13,7 @@ status_of exits.WriteFault = 3
 status_of exits.NoMemory = 4
 status_of exits.TooLong = 7
 status_of (exits.BadFrame place) = 9
+status_of (exits.Cut count) = 10
 
 -- the name and, behind one space, the number
 abbrev pub text_of : Exit → List ℕ
@@ -23,3 +24,4 @@ text_of exits.WriteFault = codes "WriteFault"
 text_of exits.NoMemory = codes "NoMemory"
 text_of exits.TooLong = codes "TooLong"
 text_of (exits.BadFrame place) = codes "BadFrame " ++ decimal place
+text_of (exits.Cut count) = codes "Cut " ++ decimal count

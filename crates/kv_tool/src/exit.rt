@@ -3,20 +3,23 @@ use std::fmt;
 /// What the top call came to.
 #[derive(Clone, Copy, Debug, PartialEq, Eq)]
 pub enum Exit {
-    /// All input was read and all replies were written.
+    /// The input was read to its end or to a Quit, and all replies were written.
     Done,
     /// The words are of no form that is served.
     Usage,
-    /// A read failed; nothing was written.
+    /// A read failed; the replies to the whole frames that were taken were written.
     ReadFault,
     /// A write failed; a front of the replies was written.
     WriteFault,
     /// Memory was refused; a front of the replies was written.
     NoMemory,
-    /// More than 268,435,456 bytes came; nothing was written.
+    /// More than 268,435,456 bytes came; the replies to the whole frames among the first so many were written.
     TooLong,
-    /// No frame begins at this offset of the input, in bytes; the replies to the earlier frames were written.
+    /// No frame begins behind the frames that were answered. The number is the place in the input, in bytes from 0, at
+    /// which that shows.
     BadFrame(u64),
+    /// The input ended within a frame, this many bytes behind its beginning; the earlier frames were answered.
+    Cut(u64),
 }
 
 impl Exit {
@@ -35,6 +38,7 @@ impl Exit {
             Exit::NoMemory => 4,
             Exit::TooLong => 7,
             Exit::BadFrame(_) => 9,
+            Exit::Cut(_) => 10,
         }
     }
 }
@@ -55,6 +59,7 @@ impl fmt::Display for Exit {
             Exit::NoMemory => write!(f, "NoMemory"),
             Exit::TooLong => write!(f, "TooLong"),
             Exit::BadFrame(place) => write!(f, "BadFrame {place}"),
+            Exit::Cut(count) => write!(f, "Cut {count}"),
         }
     }
 }

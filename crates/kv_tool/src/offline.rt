@@ -1,4 +1,4 @@
-ghost use Rattle.std.specs.Prelude.{◌≡◌, ◌≤◌, ◌↔◌, ◌⊎◌, IsTrue};
+ghost use Rattle.std.specs.Prelude.{◌≡◌, ◌≤◌, ◌↔◌, IsTrue};
 ghost use Rattle.kv_edge.specs.Edge.{Rose};
 ghost use Rattle.kv_tool.specs.Outcomes.{IsPipe, IsMoment, Outcome};
 
@@ -9,7 +9,7 @@ use std::alloc::Global;
 
 /// Runs the program's words over a source and a sink, at one moment of the clock.
 ///
-/// `pipe` takes all input and then answers frame by frame. What each exit says of the bytes taken and written is one
+/// `pipe` answers the frames of one connection as they come. What each exit says of the bytes taken and written is one
 /// definition with a case for each; a fault comes only where the count of faults of that object rose in this call.
 pub fn run_offline<S: Source, K: Sink, C: Clock>(
     alloc: Global,
@@ -26,7 +26,6 @@ pub fn run_offline<S: Source, K: Sink, C: Clock>(
 
     // What isn't used stays untouched.
     ensures untouched { result ≡ Exit.Usage → (source.new ≡ source.old) × (sink.new ≡ sink.old) × (clock.new ≡ clock.old) }
-    ensures unwritten { (result ≡ Exit.ReadFault) ⊎ (result ≡ Exit.TooLong) → sink.new ≡ sink.old }
 
     ensures reads_counted { S.faults source.old ≤ S.faults source.new }
     ensures writes_counted { K.faults sink.old ≤ K.faults sink.new }

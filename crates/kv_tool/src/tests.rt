@@ -1,54 +1,102 @@
 use crate::{Exit, run_offline};
 use kv_edge::{Bytes, MemClock, MemSink, MemSource};
 use std::alloc::Global;
+use std::process::Abort;
 use std::test::Fail;
 
 // How the source and the sink of a run behave.
 #[derive(Clone, Copy)]
 struct Outside {
-    one_byte_a_call: bool,
+    most_a_call: usize,
     failing_read: Option<u64>,
     failing_write: Option<u64>,
 }
 
 const WHOLE: Outside = Outside {
-    one_byte_a_call: false,
+    most_a_call: 1 << 20,
     failing_read: None,
     failing_write: None,
 };
 
 const IN_BYTES: Outside = Outside {
-    one_byte_a_call: true,
+    most_a_call: 1,
     failing_read: None,
     failing_write: None,
 };
 
 const GET: &str = "80 00 0001 00 00 0000 00000001 deadbeef 0000000000000000 61";
 
+const CUT_GET: &str = "80 00 0001 00 00 0000 00000001 deadbeef 00000000000000";
+
+const NOT_FOUND: &str = "81 00 0000 00 00 0001 00000000 deadbeef 0000000000000000";
+
 const SET: &str =
     "80 01 0001 08 00 0000 0000000b 00000001 0000000000000000 0000002a 00000000 61 6869";
+
+const WAS_SET: &str = "81 01 0000 00 00 0000 00000000 00000001 0000000000000001";
+
+const WAS_SET_WITH_TOKEN: &str = "\
+    81 01 0000 10 00 0000 00000010 00000001 0000000000000001 \
+    0000000000000004 0000000000000001";
 
 const SET_AND_GET: &str = "\
     80 01 0001 08 00 0000 0000000b 00000001 0000000000000000 0000002a 00000000 61 6869 \
     80 00 0001 00 00 0000 00000001 00000002 0000000000000000 61";
 
-const DELETE_AND_GET: &str = "\
-    80 04 0001 00 00 0000 00000001 00000003 0000000000000000 61 \
-    80 00 0001 00 00 0000 00000001 00000004 0000000000000000 61";
-
-const WITHOUT_A_MAGIC: &str = "82 00 0001 00 00 0000 00000001 deadbeef 0000000000000000 61";
-
-const NOT_FOUND: &str = "81 00 0000 00 00 0001 00000000 deadbeef 0000000000000000";
-
-const WAS_SET: &str = "81 01 0000 00 00 0000 00000000 00000001 0000000000000001";
-
 const WAS_SET_AND_FOUND: &str = "\
     81 01 0000 00 00 0000 00000000 00000001 0000000000000001 \
     81 00 0000 04 00 0000 00000006 00000002 0000000000000001 0000002a 6869";
 
+const DELETE_AND_GET: &str = "\
+    80 04 0001 00 00 0000 00000001 00000003 0000000000000000 61 \
+    80 00 0001 00 00 0000 00000001 00000004 0000000000000000 61";
+
 const WAS_DELETED: &str = "\
     81 04 0000 00 00 0000 00000000 00000003 0000000000000002 \
     81 00 0000 00 00 0001 00000000 00000004 0000000000000000";
+
+const GETQ: &str = "80 09 0001 00 00 0000 00000001 00000008 0000000000000000 61";
+
+const NOOP: &str = "80 0a 0000 00 00 0000 00000000 00000009 0000000000000000";
+
+const NOTHING_DONE: &str = "81 0a 0000 00 00 0000 00000000 00000009 0000000000000000";
+
+const QUIT_AND_GET: &str = "\
+    80 07 0000 00 00 0000 00000000 00000005 0000000000000000 \
+    80 00 0001 00 00 0000 00000001 00000006 0000000000000000 61";
+
+const HAS_QUIT: &str = "81 07 0000 00 00 0000 00000000 00000005 0000000000000000";
+
+const QUITQ_AND_GET: &str = "\
+    80 17 0000 00 00 0000 00000000 00000005 0000000000000000 \
+    80 00 0001 00 00 0000 00000001 00000006 0000000000000000 61";
+
+// Asks for the features 0003, 0004, 000b and 0012.
+const HELLO: &str = "80 1f 0000 00 00 0000 00000008 00000007 0000000000000000 0003 0004 000b 0012";
+
+const GRANTED: &str = "81 1f 0000 00 00 0000 00000002 00000007 0000000000000000 0004";
+
+// Sets with a framing extra that asks for a level of durability: 1, 4, and 1 with the timeout 0.
+const SET_AT_LEVEL_1: &str =
+    "08 01 02 01 08 00 0000 0000000c 00000005 0000000000000000 1101 0000000000000000 61 31";
+
+const SET_AT_LEVEL_4: &str =
+    "08 01 02 01 08 00 0000 0000000c 00000005 0000000000000000 1104 0000000000000000 61 31";
+
+const SET_IN_NO_TIME: &str =
+    "08 01 04 01 08 00 0000 0000000e 00000005 0000000000000000 13010000 0000000000000000 61 31";
+
+const NOT_SUPPORTED: &str = "81 01 0000 00 00 0083 00000000 00000005 0000000000000000";
+
+const NO_SUCH_LEVEL: &str = "81 01 0000 00 00 00a0 00000000 00000005 0000000000000000";
+
+const INVALID: &str = "81 01 0000 00 00 0004 00000000 00000005 0000000000000000";
+
+const WITHOUT_A_MAGIC: &str = "82 00 0001 00 00 0000 00000001 deadbeef 0000000000000000 61";
+
+const KEY_OVER_BODY: &str = "80 00 0002 00 00 0000 00000001 00000000 0000000000000000";
+
+const BODY_OVER_LIMIT: &str = "80 00 0002 00 00 0000 01600001 00000000 0000000000000000";
 
 // Adds the bytes of hexadecimal digits. Blanks between them are for reading.
 fn add_hex(bytes: &mut Vec<u8>, text: &str) -> Result<(), Fail> {
@@ -68,6 +116,15 @@ fn add_hex(bytes: &mut Vec<u8>, text: &str) -> Result<(), Fail> {
         }
     }
     Ok(())
+}
+
+// The bytes of texts, one behind the other.
+fn bytes_of(alloc: Global, texts: &[&str]) -> Result<Vec<u8>, Fail> {
+    let mut bytes = Vec::new(alloc);
+    for text in texts {
+        add_hex(&mut bytes, text)?;
+    }
+    Ok(bytes)
 }
 
 fn words_of(alloc: Global, texts: &[&str]) -> Result<Vec<String>, Fail> {
@@ -94,9 +151,9 @@ fn run(
     outside: Outside,
 ) -> Result<(Exit, MemSink), Fail> {
     let words = words_of(alloc, words)?;
-    let most = if outside.one_byte_a_call { 1 } else { 1 << 20 };
     let failing_reads = numbers(alloc, outside.failing_read)?;
     let failing_writes = numbers(alloc, outside.failing_write)?;
+    let most = outside.most_a_call.max(1);
     let mut source = MemSource::new(Bytes::from_vec(input), most, failing_reads);
     let mut sink = MemSink::new(alloc, most, failing_writes);
     let mut clock = MemClock::new(0);
@@ -104,35 +161,71 @@ fn run(
     Ok((exit, sink))
 }
 
+// Asserts that the frames of an input are answered so, read whole and byte by byte.
+fn assert_answered(
+    rt: &impl Abort,
+    alloc: Global,
+    frames: &[&str],
+    replies: &[&str],
+    wanted: Exit,
+) -> Result<(), Fail> {
+    let output = bytes_of(alloc, replies)?;
+    for outside in [WHOLE, IN_BYTES] {
+        let (exit, sink) = run(alloc, &["pipe"], bytes_of(alloc, frames)?, outside)?;
+        assert_eq!(rt; exit, wanted);
+        assert_eq!(rt; sink.bytes(), output.as_slice());
+    }
+    Ok(())
+}
+
 #[test]
 fn frames_are_answered_however_the_input_is_cut(rt: HostRuntime) -> Result<(), Fail> {
-    let alloc = rt.alloc();
-    let cases = [
-        ("", "", "", "", Exit::Done),
-        (GET, "", NOT_FOUND, "", Exit::Done),
-        (SET_AND_GET, "", WAS_SET_AND_FOUND, "", Exit::Done),
+    let cases: [(&[&str], &[&str]); 7] = [
+        (&[], &[]),
+        (&[GET], &[NOT_FOUND]),
+        (&[SET_AND_GET], &[WAS_SET_AND_FOUND]),
         (
-            SET_AND_GET,
-            DELETE_AND_GET,
-            WAS_SET_AND_FOUND,
-            WAS_DELETED,
-            Exit::Done,
+            &[SET_AND_GET, DELETE_AND_GET],
+            &[WAS_SET_AND_FOUND, WAS_DELETED],
         ),
-        (WITHOUT_A_MAGIC, SET, "", "", Exit::BadFrame(0)),
-        (SET, WITHOUT_A_MAGIC, WAS_SET, "", Exit::BadFrame(35)),
+        (&[GETQ, NOOP], &[NOTHING_DONE]),
+        (&[SET, QUIT_AND_GET], &[WAS_SET, HAS_QUIT]),
+        (&[SET, QUITQ_AND_GET], &[WAS_SET]),
     ];
-    for outside in [WHOLE, IN_BYTES] {
-        for (first, then, reply, next, wanted) in cases {
-            let mut input = Vec::new(alloc);
-            add_hex(&mut input, first)?;
-            add_hex(&mut input, then)?;
-            let mut output = Vec::new(alloc);
-            add_hex(&mut output, reply)?;
-            add_hex(&mut output, next)?;
-            let (exit, sink) = run(alloc, &["pipe"], input, outside)?;
-            assert_eq!(rt; exit, wanted);
-            assert_eq!(rt; sink.bytes(), output.as_slice());
-        }
+    for (frames, replies) in cases {
+        assert_answered(&rt, rt.alloc(), frames, replies, Exit::Done)?;
+    }
+    Ok(())
+}
+
+#[test]
+fn features_and_levels_are_answered(rt: HostRuntime) -> Result<(), Fail> {
+    let cases: [(&[&str], &[&str]); 4] = [
+        (&[HELLO, SET], &[GRANTED, WAS_SET_WITH_TOKEN]),
+        (&[SET_AT_LEVEL_1], &[NOT_SUPPORTED]),
+        (&[SET_AT_LEVEL_4], &[NO_SUCH_LEVEL]),
+        (&[SET_IN_NO_TIME], &[INVALID]),
+    ];
+    for (frames, replies) in cases {
+        assert_answered(&rt, rt.alloc(), frames, replies, Exit::Done)?;
+    }
+    Ok(())
+}
+
+#[test]
+fn the_place_of_a_bad_frame_and_a_cut_are_told(rt: HostRuntime) -> Result<(), Fail> {
+    let cases: [(&[&str], &[&str], Exit); 8] = [
+        (&[CUT_GET], &[], Exit::Cut(23)),
+        (&[GET, CUT_GET], &[NOT_FOUND], Exit::Cut(23)),
+        (&[WITHOUT_A_MAGIC, SET], &[], Exit::BadFrame(0)),
+        (&[SET, WITHOUT_A_MAGIC], &[WAS_SET], Exit::BadFrame(35)),
+        (&[KEY_OVER_BODY], &[], Exit::BadFrame(8)),
+        (&[SET, KEY_OVER_BODY], &[WAS_SET], Exit::BadFrame(43)),
+        (&[BODY_OVER_LIMIT], &[], Exit::BadFrame(8)),
+        (&[SET, BODY_OVER_LIMIT], &[WAS_SET], Exit::BadFrame(43)),
+    ];
+    for (frames, replies, wanted) in cases {
+        assert_answered(&rt, rt.alloc(), frames, replies, wanted)?;
     }
     Ok(())
 }
@@ -167,30 +260,40 @@ fn a_key_has_at_most_250_bytes(rt: HostRuntime) -> Result<(), Fail> {
 }
 
 #[test]
-fn other_words_and_failing_calls_are_told(rt: HostRuntime) -> Result<(), Fail> {
+fn other_words_are_told(rt: HostRuntime) -> Result<(), Fail> {
     let alloc = rt.alloc();
-    let cases: [(&[&str], Option<u64>, Option<u64>, usize, Exit); 7] = [
-        (&["replay", "now"], None, None, 0, Exit::Usage),
-        (&[], None, None, 0, Exit::Usage),
-        (&["pipes"], None, None, 0, Exit::Usage),
-        (&["pipe"], Some(0), None, 0, Exit::ReadFault),
-        (&["pipe"], Some(7), None, 0, Exit::ReadFault),
-        (&["pipe"], None, Some(0), 0, Exit::WriteFault),
-        (&["pipe"], None, Some(3), 3, Exit::WriteFault),
+    let cases: [&[&str]; 4] = [&["replay", "now"], &[], &["pipes"], &["pipe", "pipe"]];
+    for words in cases {
+        let (exit, sink) = run(alloc, words, bytes_of(alloc, &[GET])?, WHOLE)?;
+        assert_eq!(rt; exit, Exit::Usage);
+        assert!(rt; sink.bytes().is_empty());
+    }
+    Ok(())
+}
+
+// A Set has 35 bytes, so that each frame is read and each reply written by a call of its own.
+#[test]
+fn failing_calls_are_told_and_earlier_replies_written(rt: HostRuntime) -> Result<(), Fail> {
+    let alloc = rt.alloc();
+    let cases = [
+        (35, Some(0), None, 0, Exit::ReadFault),
+        (35, Some(1), None, 24, Exit::ReadFault),
+        (35, None, Some(0), 0, Exit::WriteFault),
+        (35, None, Some(1), 24, Exit::WriteFault),
+        (1, Some(7), None, 0, Exit::ReadFault),
+        (1, Some(40), None, 24, Exit::ReadFault),
+        (1, None, Some(3), 3, Exit::WriteFault),
     ];
-    let mut whole = Vec::new(alloc);
-    add_hex(&mut whole, NOT_FOUND)?;
-    for (words, failing_read, failing_write, length, wanted) in cases {
+    let replies = bytes_of(alloc, &[WAS_SET, NOT_FOUND])?;
+    for (most_a_call, failing_read, failing_write, length, wanted) in cases {
         let outside = Outside {
-            one_byte_a_call: true,
+            most_a_call,
             failing_read,
             failing_write,
         };
-        let mut input = Vec::new(alloc);
-        add_hex(&mut input, GET)?;
-        let (exit, sink) = run(alloc, words, input, outside)?;
+        let (exit, sink) = run(alloc, &["pipe"], bytes_of(alloc, &[SET, GET])?, outside)?;
         assert_eq!(rt; exit, wanted);
-        assert!(rt; sink.bytes().len() == length && whole.starts_with(sink.bytes()));
+        assert!(rt; sink.bytes().len() == length && replies.starts_with(sink.bytes()));
     }
     Ok(())
 }
@@ -206,6 +309,7 @@ fn exits_have_names_and_statuses(rt: HostRuntime) -> Result<(), Fail> {
         (Exit::NoMemory, "NoMemory", 4),
         (Exit::TooLong, "TooLong", 7),
         (Exit::BadFrame(25), "BadFrame 25", 9),
+        (Exit::Cut(23), "Cut 23", 10),
     ] {
         assert_eq!(rt; format!(in alloc; "{exit}")?.as_str(), name);
         assert_eq!(rt; exit.status(), status);

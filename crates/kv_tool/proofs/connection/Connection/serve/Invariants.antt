@@ -1,0 +1,18 @@
+use Rattle.std.proofs.Common.{◌≡◌, ◌+◌, ◌-◌, ◌*◌, ◌≤◌, length, drop}
+use Rattle.kv_tool.specs.Outcomes.{Seen}
+use Rattle.kv_tool.specs.Progress.{Progress}
+use Rattle.kv_tool.proofs.connection.Connection.serve.Given as goal
+
+-- the bytes before `at` are fed, and no fault was forgotten
+abbrev pub invariant-loop-self : goal.invariant-loop-self
+invariant-loop-self g l = record {
+  progress : (seen : Seen) → Progress l.now (record seen { written_now = g.K.Sink.written l.fn.sink }) l.piece l.fn.self → Progress l.now (record seen { written_now = g.K.Sink.written l.sink }) (drop l.at l.piece) l.self;
+  within : l.at ≤ length l.piece;
+  held : length l.self.session.held ≤ l.self.fed;
+  fed : l.self.fed ≡ l.fn.self.fed + l.at;
+  counted : g.K.Sink.faults l.fn.sink ≤ g.K.Sink.faults l.sink;
+}
+
+-- what is left of the piece and of the frames held
+abbrev pub decreases-loop-self : goal.decreases-loop-self
+decreases-loop-self g l = 2 * (length l.piece - l.at) + length l.self.session.held

@@ -1,0 +1,193 @@
+//! A connection: its frames are answered from one vbucket as they come, and the replies are gathered and written.
+
+ghost use Rattle.std.specs.Prelude.{◌≡◌, ◌≢◌, ◌≤◌, ◌+◌, Some, None, [], length, IfOk, OnOk, OnErr};
+ghost use Rattle.kv_edge.specs.Edge.{Rose};
+ghost use Rattle.kv_request.specs.Tables.{IsReply};
+ghost use Rattle.kv_tool.specs.Outcomes.{Seen};
+ghost use Rattle.kv_tool.specs.Progress.{IsNew, Turns, Gathers, FeedsOn, Progress, Serves, Empties, Finishes, EndsAt};
+
+use crate::exit::Exit;
+use crate::piping::INPUT_LIMIT;
+use kv_edge::{NoMemory, Sink, WriteAll, write_all};
+use kv_request::Reply;
+use kv_session::{Next, Session};
+use std::alloc::Global;
+use vb_core::Vb;
+
+/// How many bytes of replies are gathered before they are written.
+const OUTPUT_PIECE: usize = 65536;
+
+/// A session, the vbucket that answers its requests, and the replies to them.
+#[derive(Drop)]
+pub(crate) struct Connection {
+    session: Session,
+    vb: Vb,
+    /// The bytes of replies that aren't written yet.
+    out: Vec<u8>,
+    /// How many bytes were fed to the session.
+    fed: usize,
+}
+
+/// What came of asking for the next frame.
+#[derive(Clone, Copy)]
+enum Turn {
+    /// A frame was answered, and its reply gathered.
+    Answered,
+    /// Bytes of a frame are missing.
+    Waits,
+    /// No further frame is answered: the run is to end so.
+    Over(Exit),
+    /// Memory was refused.
+    NoMemory,
+}
+
+impl Connection {
+    /// A connection from which no byte came, and a vbucket without a history.
+    pub(crate) fn open(alloc: Global) -> Result<Connection, NoMemory>
+        ensures { IfOk result IsNew }
+    {
+        let vb = Vb::open_plain(alloc)?;
+        Ok(Connection {
+            session: Session::new(alloc),
+            vb,
+            out: Vec::new(alloc),
+            fed: 0,
+        })
+    }
+
+    /// Answers the frames of the next piece of the input, and writes the replies to them. Where the run ends in the
+    /// piece, this is what it comes to.
+    pub(crate) fn serve<K: Sink>(&mut self, sink: &mut K, piece: &[u8], now: u64) -> Option<Exit>
+        requires held { length self.old.session.held ≤ self.old.fed }
+        requires room { self.old.fed + length piece.now ≤ INPUT_LIMIT }
+        ensures serves { (seen : Seen) →
+            Progress now (record seen { written_now = K.written sink.old }) piece.now self.old →
+            Serves now (record seen { written_now = K.written sink.new }) self.new result }
+        ensures held { result ≡ None → length self.new.session.held ≤ self.new.fed }
+        ensures fed { result ≡ None → self.new.fed ≡ self.old.fed + length piece.now }
+        ensures counted { K.faults sink.old ≤ K.faults sink.new }
+        ensures cause { result ≡ Some Exit.WriteFault → Rose (K.faults sink.old) (K.faults sink.new) }
+    {
+        let mut at = 0;
+        loop {
+            match self.answer_next(now) {
+                Turn::Answered => match self.write_piece(sink) {
+                    WriteAll::Done => {}
+                    WriteAll::Failed => return Some(Exit::WriteFault),
+                },
+                Turn::Waits => {
+                    let (_, rest) = piece.split_at(at);
+                    if rest.is_empty() {
+                        return self.finish(sink, None);
+                    }
+                    match self.feed(rest) {
+                        Ok(count) => at += count,
+                        Err(_refused) => return Some(Exit::NoMemory),
+                    }
+                }
+                Turn::Over(exit) => return self.finish(sink, Some(exit)),
+                Turn::NoMemory => return Some(Exit::NoMemory),
+            }
+        }
+    }
+
+    /// What a run comes to whose input ended here.
+    pub(crate) fn at_end(&self) -> Exit
+        ensures { EndsAt self.now result }
+    {
+        match self.session.rest() {
+            0 => Exit::Done,
+            count => Exit::Cut(count as u64),
+        }
+    }
+
+    /// How many bytes were fed.
+    pub(crate) fn fed(&self) -> usize
+        ensures { result ≡ self.now.fed }
+    {
+        self.fed
+    }
+
+    /// Answers the next frame where a whole one is held.
+    fn answer_next(&mut self, now: u64) -> Turn
+        requires { length self.old.session.held ≤ self.old.fed }
+        ensures { Turns now self.old self.new result }
+    {
+        match self.session.next_request() {
+            Next::Request(request) => {
+                let reply = self.vb.request(&request, now);
+                self.gather(&reply)
+            }
+            Next::Refused(reply) => self.gather(&reply),
+            Next::More(_missing) => Turn::Waits,
+            Next::Bad(place, _fault) => {
+                Turn::Over(Exit::BadFrame((self.fed - self.session.rest() + place) as u64))
+            }
+            Next::Quit => Turn::Over(Exit::Done),
+            Next::NoMemory => Turn::NoMemory,
+        }
+    }
+
+    /// Gathers the bytes of a reply.
+    fn gather(&mut self, reply: &Reply) -> Turn
+        requires { IsReply reply.now }
+        ensures { Gathers self.old reply.now self.new result }
+    {
+        match self.session.answer(reply, &mut self.out) {
+            Ok(()) => Turn::Answered,
+            Err(_refused) => Turn::NoMemory,
+        }
+    }
+
+    /// Feeds bytes to the session, and answers how many it took. At `Err` nothing was taken.
+    fn feed(&mut self, bytes: &[u8]) -> Result<usize, NoMemory>
+        requires { self.old.fed + length bytes.now ≤ INPUT_LIMIT }
+        ensures ok { IfOk result (λ count. FeedsOn self.old bytes.now self.new count) }
+        ensures err { OnErr result (self.new ≡ self.old) }
+    {
+        let count = self.session.feed(bytes)?;
+        self.fed += count;
+        Ok(count)
+    }
+
+    /// Writes the gathered replies where they are enough for a piece.
+    fn write_piece<K: Sink>(&mut self, sink: &mut K) -> WriteAll
+        ensures bytes { Empties (K.written sink.old) (K.written sink.new) self.old self.new result }
+        ensures counted { K.faults sink.old ≤ K.faults sink.new }
+        ensures cause { result ≡ WriteAll.Failed → Rose (K.faults sink.old) (K.faults sink.new) }
+    {
+        if self.out.len() < OUTPUT_PIECE {
+            return WriteAll::Done;
+        }
+        self.write_out(sink)
+    }
+
+    /// Writes all gathered replies, and comes to this where that succeeds.
+    fn finish<K: Sink>(&mut self, sink: &mut K, wanted: Option<Exit>) -> Option<Exit>
+        requires { wanted ≢ Some Exit.WriteFault }
+        ensures bytes { Finishes (K.written sink.old) (K.written sink.new) self.old self.new wanted result }
+        ensures counted { K.faults sink.old ≤ K.faults sink.new }
+        ensures cause { result ≡ Some Exit.WriteFault → Rose (K.faults sink.old) (K.faults sink.new) }
+    {
+        match self.write_out(sink) {
+            WriteAll::Done => wanted,
+            WriteAll::Failed => Some(Exit::WriteFault),
+        }
+    }
+
+    /// Writes all gathered replies.
+    fn write_out<K: Sink>(&mut self, sink: &mut K) -> WriteAll
+        ensures bytes { Empties (K.written sink.old) (K.written sink.new) self.old self.new result }
+        ensures all { result ≡ WriteAll.Done → self.new.out.items ≡ [] }
+        ensures counted { K.faults sink.old ≤ K.faults sink.new }
+        ensures cause { result ≡ WriteAll.Failed → Rose (K.faults sink.old) (K.faults sink.new) }
+    {
+        match write_all(sink, &self.out) {
+            WriteAll::Done => {
+                self.out.clear();
+                WriteAll::Done
+            }
+            WriteAll::Failed => WriteAll::Failed,
+        }
+    }
+}
