@@ -56,7 +56,7 @@ bytes_taken bytes count each k =
     ]
 
 -- the value of what ends at this place is below 2 ^ 32
-value_fits : (bytes : List ℕ) (place : ℕ) → Ends bytes place →
+pub value_fits : (bytes : List ℕ) (place : ℕ) → Ends bytes place →
     value_of (take (place + 1) bytes) < 2 ^ 32
 value_fits bytes place e =
     rw (value_more bytes place e.there) (sum_fits place (get_or bytes place 0) _ e.few e.fits (value_taken bytes place (omega arith)))

@@ -1,9 +1,10 @@
 -- Each number has one spelling, and none begins another.
-use Rattle.std.proofs.Common.{◌≡◌, ℕ, zero, suc, ◌+◌, ◌-◌, ◌*◌, ◌/◌, ◌%◌, ◌^◌, ◌<◌, ◌≤◌, List, [], ◌∷◌, ◌++◌, length, get_or, take, refl, sym, ap, subst, ◌∙◌, inl, inr, arith}
+use Rattle.std.proofs.Common.{◌≡◌, ℕ, zero, suc, ◌+◌, ◌-◌, ◌*◌, ◌/◌, ◌%◌, ◌^◌, ◌<◌, ◌≤◌, nat_lt, List, [], ◌∷◌, ◌++◌, length, get_or, take, refl, sym, ap, subst, ◌∙◌, inl, inr, arith}
 use Rattle.std.proofs.Math.Nat.{pow-suc}
-use Rattle.std.proofs.lemmas.Bool.{cases_lt}
+use Rattle.std.proofs.lemmas.Bool.{cases_lt, cond-true, cond-false, lt-ltb, le-ltb}
 use Rattle.std.proofs.lemmas.List.{take_at}
 use Rattle.leb_collections.specs.Leb128.{AreBytes, value_of, AllContinue, last_of, IsShortest}
+use Rattle.leb_collections.specs.Functions.{groups, id_bytes}
 use Rattle.leb_collections.proofs.Ends.{Ends, Ends-from_spelling}
 use Rattle.leb_collections.proofs.Reading.{only_end}
 
@@ -101,27 +102,44 @@ without_front n b c s is =
       };
     }
 
--- a number of this many bytes, of at most five, has a spelling of no more
-exists_within : (more n : ℕ) → more ≤ 4 → n < 128 ^ suc more → n < 2 ^ 32 →
-    (s : List ℕ) × (length s ≤ suc more) × IsShortest n s
-exists_within zero n few below fits = (n ∷ [], omega arith, one_byte n (omega arith))
-exists_within (suc more) n few below fits =
+-- the groups of a number are its shortest spelling, where there is room for them
+groups_within : (more n : ℕ) → more ≤ 4 → n < 128 ^ suc more → n < 2 ^ 32 →
+    (length (groups more n) ≤ suc more) × IsShortest n (groups more n)
+groups_within zero n few below fits = (omega arith, one_byte n (omega arith))
+groups_within (suc more) n few below fits =
     elim (cases_lt n 128) [
-      | inl small ↦ (n ∷ [], omega arith, one_byte n small)
+      | inl small ↦ rw (cond-true (nat_lt n 128) (n ∷ []) ((128 + n % 128) ∷ groups more (n / 128)) (lt-ltb n 128 small)) (omega arith, one_byte n small)
       | inr large ↦
           let product : n < 128 ^ suc more * 128 = rw pow-suc at below in
-          let high = exists_within more (n / 128) (omega arith) (omega arith) (omega arith) in
-          let value : (n % 128 + 128) % 128 + 128 * (n / 128) ≡ n = omega arith in
-          let len : length high.0 ≤ suc more = high.1 in
-          let P : ℕ → Type 0 = λ v. IsShortest v ((n % 128 + 128) ∷ high.0) in (
-            (n % 128 + 128) ∷ high.0,
+          let high = groups_within more (n / 128) (omega arith) (omega arith) (omega arith) in
+          let value : (128 + n % 128) % 128 + 128 * (n / 128) ≡ n = omega arith in
+          let len : length (groups more (n / 128)) ≤ suc more = high.0 in
+          let P : ℕ → Type 0 = λ v. IsShortest v ((128 + n % 128) ∷ groups more (n / 128)) in
+          rw (cond-false (nat_lt n 128) (n ∷ []) ((128 + n % 128) ∷ groups more (n / 128)) (le-ltb n 128 large)) (
             omega arith,
-            subst P value (with_front (n % 128 + 128) (n / 128) high.0 (omega arith) (omega arith) (omega arith) (omega arith) (omega arith) high.2),
+            subst P value (with_front (128 + n % 128) (n / 128) (groups more (n / 128)) (omega arith) (omega arith) (omega arith) (omega arith) (omega arith) high.1),
           )
     ]
 
+pub id_bytes_shortest : (n : ℕ) → n < 2 ^ 32 → IsShortest n (id_bytes n)
+id_bytes_shortest n fits = let found = groups_within 4 n (omega arith) (omega arith) fits in found.1
+
+groups_short : (more n : ℕ) → length (groups more n) ≤ suc more
+groups_short zero n = omega arith
+groups_short (suc more) n =
+    elim (cases_lt n 128) [
+      | inl small ↦ rw (cond-true (nat_lt n 128) (n ∷ []) ((128 + n % 128) ∷ groups more (n / 128)) (lt-ltb n 128 small)) (omega arith)
+      | inr large ↦
+          let others : length (groups more (n / 128)) ≤ suc more = groups_short more (n / 128) in
+          rw (cond-false (nat_lt n 128) (n ∷ []) ((128 + n % 128) ∷ groups more (n / 128)) (le-ltb n 128 large)) (omega arith)
+    ]
+
+-- an id has at most five bytes
+pub id_bytes_short : (n : ℕ) → length (id_bytes n) ≤ 5
+id_bytes_short n = groups_short 4 n
+
 pub exists : (n : ℕ) → n < 2 ^ 32 → (s : List ℕ) × IsShortest n s
-exists n fits = let found = exists_within 4 n (omega arith) (omega arith) fits in (found.0, found.2)
+exists n fits = (id_bytes n, id_bytes_shortest n fits)
 
 pub unique : (n : ℕ) (a b : List ℕ) → IsShortest n a → IsShortest n b → a ≡ b
 unique n [] b p q = let some : 1 ≤ 0 = p.nonempty in absurd (omega arith)

@@ -3,3 +3,4 @@ pub mod Ends
 pub mod Reading
 pub mod Writing
 pub mod Laws
+pub mod Functions

@@ -1,7 +1,7 @@
 -- Unsigned LEB128 for numbers below 2 ^ 32, each in its shortest spelling.
 use Rattle.std.specs.Prelude.{◌≡◌, ℕ, ◌+◌, ◌-◌, ◌*◌, ◌%◌, ◌^◌, ◌<◌, ◌≤◌, List, [], ◌∷◌, length, slice_index}
 
--- The number that bytes stand for: the sum of the low seven bits of each, times 128 ^ i at place i.
+-- The number that bytes stand for: each brings seven bits, the lowest first.
 abbrev pub value_of : List ℕ → ℕ
 value_of [] = 0
 value_of (b ∷ bs) = b % 128 + 128 * value_of bs
@@ -32,15 +32,15 @@ pub record IsShortest (n : ℕ) (bytes : List ℕ) : Type 0 where
   -- all bytes but the last have the top bit, and the last has not
   pub continued : AllContinue (length bytes - 1) bytes
   pub ended : last_of bytes < 128
-  -- the last is 0 only where it is the sole byte
+  -- a longer spelling doesn't end with 0
   pub shortest : last_of bytes ≡ 0 → length bytes ≡ 1
 
--- The spelling isn't whole: all bytes there, at most four, have the top bit. None at all will do.
+-- The bytes run out while each still announces another; so do no bytes at all.
 pub record IsShort (bytes : List ℕ) : Type 0 where
   pub at_most_four : length bytes ≤ 4
   pub continued : AllContinue (length bytes) bytes
 
--- The first four bytes have the top bit, and the fifth has more than the four bits left of 32.
+-- Four bytes announce another, and the fifth brings more than the four bits that are left of 32.
 pub record IsLong (bytes : List ℕ) : Type 0 where
   pub fifth : 5 ≤ length bytes
   pub continued : AllContinue 4 bytes

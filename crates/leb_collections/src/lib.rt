@@ -20,7 +20,7 @@
 //! 1. there are one to five of them,
 //! 2. all but the last have the top bit, and the last has not,
 //! 3. a fifth byte is at most `0f`, so that the number is below 2^32, and
-//! 4. the last byte is `00` only where it is the sole one.
+//! 4. with several of them the last isn't `00`.
 //!
 //! LEB128 itself allows padding: `80 00` and `00` are both 0 there. Here the fourth condition
 //! forbids it: an id and the key behind it are one run of bytes, and a document must not be
@@ -46,8 +46,9 @@
 //! ```
 #![tactic(auto)]
 
-ghost use Rattle.std.specs.Prelude.{◌≡◌, ℕ, ◌+◌, ◌*◌, ◌%◌, ◌^◌, ◌<◌, ◌≤◌, ◌↔◌, List, length, ◌++◌, take, drop, IfOk};
-ghost use Rattle.leb_collections.specs.Leb128.{IsShortest, IsShort, IsLong, IsNotShortest};
+ghost use Rattle.std.specs.Prelude.{◌≡◌, ℕ, ◌+◌, ◌*◌, ◌%◌, ◌^◌, ◌<◌, ◌≤◌, ◌↔◌, List, length, ◌++◌, take, drop, Some, None, IfOk, OnErr};
+ghost use Rattle.leb_collections.specs.Leb128.{AreBytes, IsShortest, IsShort, IsLong, IsNotShortest};
+ghost use Rattle.leb_collections.specs.Functions.{id_at, id_bytes};
 
 #[cfg(test)]
 mod tests;
@@ -64,11 +65,11 @@ const LAST_MOST: u8 = 0x0f;
 /// Why bytes don't begin with a collection id.
 #[derive(Clone, Copy, Debug, PartialEq, Eq)]
 pub enum LebFault {
-    /// The bytes end before the id does: all of them, at most four, have the top bit.
+    /// The bytes run out while each still announces another.
     Short,
-    /// The first four bytes have the top bit and the fifth is above `0f`: the id would pass 32 bits.
+    /// A fifth byte brings more than four bits, or announces a sixth: the id would pass 32 bits.
     Long,
-    /// The last byte of a spelling of two bytes or more is `00`, so one byte less would do.
+    /// The spelling ends with `00` behind other bytes, so one byte less would do.
     NotShortest,
 }
 
@@ -96,6 +97,9 @@ pub fn read_id(bytes: &[u8]) -> Result<(u32, usize), LebFault>
     ensures short { (result ≡ Err LebFault.Short) ↔ IsShort bytes.now }
     ensures long { (result ≡ Err LebFault.Long) ↔ IsLong bytes.now }
     ensures not_shortest { (result ≡ Err LebFault.NotShortest) ↔ IsNotShortest bytes.now }
+    // The same as a function.
+    ensures reads { IfOk result (λ read. id_at bytes.now ≡ Some (read.0, drop read.1 bytes.now)) }
+    ensures fails { OnErr result (id_at bytes.now ≡ None) }
 {
     let mut id = 0;
     for (place, &byte) in bytes.iter().enumerate() {
@@ -126,6 +130,7 @@ fn continued(number: u32) -> u8
 pub fn write_id(id: u32, out: &mut [u8; 5]) -> usize
     ensures within { (1 ≤ result) × (result ≤ 5) }
     ensures spelled { IsShortest id (take result out.new) }
+    ensures writes { take result out.new ≡ id_bytes id }
     ensures kept { drop result out.new ≡ drop result out.old }
 {
     let mut rest = id;
@@ -149,4 +154,12 @@ pub fn one_spelling()
 pub fn no_spelling_begins_another()
     ensures { (m n : ℕ) (a b x y : List ℕ) →
         IsShortest m a → IsShortest n b → a ++ x ≡ b ++ y → (a ≡ b) × (m ≡ n) }
+{}
+
+/// A law: reading and writing as functions are the relation between ids and spellings.
+pub fn reading_and_writing()
+    ensures reads { (n : ℕ) (spelling rest : List ℕ) → IsShortest n spelling → id_at (spelling ++ rest) ≡ Some (n, rest) }
+    ensures told { (n : ℕ) (bytes rest : List ℕ) → AreBytes bytes → id_at bytes ≡ Some (n, rest) →
+        (spelling : List ℕ) × (bytes ≡ spelling ++ rest) × IsShortest n spelling }
+    ensures writes { (n : ℕ) → n < 2 ^ 32 → IsShortest n (id_bytes n) }
 {}

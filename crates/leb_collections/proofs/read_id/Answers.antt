@@ -1,7 +1,8 @@
-use Rattle.std.proofs.Common.{◌≡◌, ◌+◌, ◌≤◌, get_or, sym, arith}
-use Rattle.leb_collections.specs.Leb128.{IsLong, IsNotShortest}
+use Rattle.std.proofs.Common.{◌≡◌, ◌+◌, ◌≤◌, get_or, sym, take, arith}
+use Rattle.leb_collections.specs.Leb128.{value_of, IsLong, IsNotShortest}
 use Rattle.leb_collections.proofs.Values.{value_more}
-use Rattle.leb_collections.proofs.Ends.{Ends}
+use Rattle.leb_collections.proofs.Ends.{Ends, Ends-not_padded}
+use Rattle.leb_collections.proofs.Functions.{id_at_end, id_at_none}
 use Rattle.leb_collections.proofs.Reading.{read_fits, read_found, only_end, not_padded, not_long}
 use Rattle.leb_collections.proofs.read_id.Goals as goal
 
@@ -32,3 +33,14 @@ returns-then-byte-lt-TOP_BIT-clause-only c n spelling rest is parts =
     let only = only_end c.args.bytes.now c.loop-place.place n spelling rest e is parts in
     let value : c.loop-place.id + c.weighed-id.result ≡ n = rw (c.weighed-id.ensures, c.loop-place.invariant.valued, only.0) (sym (value_more c.args.bytes.now c.loop-place.place e.there)) in
     cc (value, only.1)
+
+pub returns-then-byte-lt-TOP_BIT-clause-reads : goal.returns-then-byte-lt-TOP_BIT-clause-reads
+returns-then-byte-lt-TOP_BIT-clause-reads c =
+    let e : Ends c.args.bytes.now c.loop-place.place = grind arith in
+    let value : c.loop-place.id + c.weighed-id.result ≡ value_of (take (c.loop-place.place + 1) c.args.bytes.now) = rw (c.weighed-id.ensures, c.loop-place.invariant.valued) (sym (value_more c.args.bytes.now c.loop-place.place e.there)) in
+    rw value (id_at_end c.args.bytes.now c.loop-place.place e)
+
+pub returns-then-place-gt0-clause-fails : goal.returns-then-place-gt0-clause-fails
+returns-then-place-gt0-clause-fails c =
+    let padded : IsNotShortest c.args.bytes.now = grind arith in
+    id_at_none c.args.bytes.now (λ p e. Ends-not_padded c.args.bytes.now p e padded)
