@@ -1,6 +1,8 @@
 -- Maps by the keys of documents: what the entries of a tree say of the finite map that they make.
-use Rattle.std.specs.Prelude.{◌≡◌, ℕ, cond, List, [], ◌∷◌, Option, Some, None, refl}
-use Rattle.std.specs.Ordering.{nat_cmp}
+use Rattle.std.specs.Prelude.{◌≡◌, ℕ, true, cond, List, [], ◌∷◌, Option, Some, None, refl}
+use Rattle.std.specs.declared.cmp.Ordering.{Ordering}
+use Rattle.std.specs.declared.cmp.Ordering.TheVariants.{Less, Equal, Greater}
+use Rattle.std.specs.Ordering.{nat_cmp, is_eq, eq_by_cmp}
 use Rattle.std.specs.Cmp.{IsTotalOrder, eq_by_cmp_equiv}
 use Rattle.std.specs.Cmp.Lexicographic.{slice_cmp}
 use Rattle.std.specs.BTreeMap.{is_at}
@@ -15,6 +17,14 @@ use Rattle.doc_model.specs.Keys.{key_cmp}
 -- keys that compare alike are one
 pub exact_keys : CmpEqualImpliesEq key_cmp
 exact_keys a b h = ap (λ (p : ℕ × List ℕ). record { collection = p.0; key = p.1 }) (exact_pairs nat_cmp (slice_cmp nat_cmp) exact_unsigned exact_bytes (a.collection, a.key) (b.collection, b.key) h)
+
+is_equal : (o : Ordering) → is_eq o ≡ true → o ≡ Equal
+is_equal Less e = absurd (cc)
+is_equal Equal e = refl
+is_equal Greater e = absurd (cc)
+
+pub same_key : (a b : DocKey) → eq_by_cmp key_cmp a b ≡ true → a ≡ b
+same_key a b e = exact_keys a b (is_equal (key_cmp a b) e)
 
 pub keys_total : IsTotalOrder key_cmp
 keys_total = then_total (on_total (λ k. k.collection) nat_cmp_total) (on_total (λ k. k.key) nat_list_cmp_total)

@@ -1,7 +1,10 @@
 -- The order of keys, and what a map by keys has.
-use Rattle.std.specs.Prelude.{ℕ, List, refl}
+use Rattle.std.specs.Prelude.{ℕ, ◌≤◌, Bool, List, refl}
 use Rattle.std.specs.declared.cmp.Ordering.{Ordering}
-use Rattle.std.specs.Ordering.{nat_cmp, ordering_then}
+use Rattle.std.specs.List.{list_any, AllByRecursion}
+use Rattle.std.specs.List.Sorted.{IsStrictlySortedBy}
+use Rattle.std.specs.Map.{keys_of}
+use Rattle.std.specs.Ordering.{nat_cmp, ordering_then, eq_by_cmp}
 use Rattle.std.specs.Cmp.Lexicographic.{slice_cmp}
 use Rattle.std.specs.Coded.{Coded, code_by, coded×, coded_ℕ, coded_list}
 use Rattle.doc_model.specs.declared.key.DocKey.{DocKey}
@@ -13,3 +16,12 @@ key_cmp a b = ordering_then (nat_cmp a.collection b.collection) (slice_cmp nat_c
 -- a key as a pair of a number and bytes
 abbrev pub coded_key : Coded DocKey
 coded_key = code_by (ℕ × List ℕ) (coded× coded_ℕ (coded_list coded_ℕ)) (λ k. (k.collection, k.key)) (λ p. record { collection = p.0; key = p.1 }) (λ _. refl)
+
+-- whether a key is among others
+abbrev pub is_among : List DocKey → DocKey → Bool
+is_among keys key = list_any (eq_by_cmp key_cmp key) keys
+
+-- entries in the order of their keys, from a collection's first on
+pub record BeginsAt {X : Type 0} (collection : ℕ) (entries : List (DocKey × X)) : Type 0 where
+  pub sorted : IsStrictlySortedBy key_cmp (keys_of entries)
+  pub from : AllByRecursion (λ e. collection ≤ e.0.collection) entries

@@ -85,6 +85,33 @@ fn a_map_has_what_was_inserted_last_and_not_what_was_removed(rt: HostRuntime) ->
 }
 
 #[test]
+fn the_keys_of_collections_are_found_and_taken_away(rt: HostRuntime) -> Result<(), Fail> {
+    let alloc = rt.alloc();
+    let mut map = KeyMap::<u8>::new(alloc);
+    for (collection, name) in [
+        (9, b"a"),
+        (8, b"b"),
+        (0xffff_ffff, b"z"),
+        (0, b"a"),
+        (8, b"a"),
+    ] {
+        map.insert(key(alloc, collection, name)?, 1)?;
+    }
+    let keys = map.keys_in(alloc, &[8, 7, 0xffff_ffff])?;
+    assert_eq!(rt; keys.len(), 3);
+    let found = keys.as_slice();
+    assert_eq!(rt; found[0], key(alloc, 8, b"a")?);
+    assert_eq!(rt; found[1], key(alloc, 8, b"b")?);
+    assert_eq!(rt; found[2], key(alloc, 0xffff_ffff, b"z")?);
+
+    map.remove_all(found);
+    for (collection, there) in [(0, true), (8, false), (9, true), (0xffff_ffff, false)] {
+        assert_eq!(rt; map.contains_key(&key(alloc, collection, b"a")?), there);
+    }
+    Ok(())
+}
+
+#[test]
 fn want_of_memory_is_a_refusal_of_its_own(rt: HostRuntime) {
     assert_eq!(rt; Refused::from(NoMemory), Refused::NoMemory);
     assert_ne!(rt; Refused::NoMemory, Refused::Status(Status::ENOMEM));
