@@ -1,0 +1,9 @@
+use Rattle.std.proofs.Common.{rules}
+use Rattle.manifest_rules.specs.Text.{scope_text}
+use Rattle.manifest_rules.proofs.Commas.{one_more}
+use Rattle.manifest_rules.proofs.writing.add_scopes.Goals as goal
+
+pub loop-at-preserved : goal.loop-at-preserved
+loop-at-preserved c =
+    one_more scope_text c.args.scopes.now c.loop-at.at c.index-scopes-at.result c.args.out.now.items c.loop-at.out.items c.add_comma.new.out.items c.add_scope.new.out.items
+    c.loop-at-test.true c.index-scopes-at.is c.loop-at.invariant c.in_ok-add_comma.ensures (search rules)

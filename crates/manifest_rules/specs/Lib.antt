@@ -1,0 +1,9 @@
+pub mod Catalog
+pub mod Lifetimes
+pub mod Form
+pub mod Reading
+pub mod Text
+pub mod Rules
+pub mod Paths
+pub mod State
+pub mod Laws

@@ -1,0 +1,88 @@
+-- The state of a manifest in bytes: its text and the ids that were ever dropped.
+use Rattle.std.specs.Prelude.{◌≡◌, ℕ, ◌+◌, ◌^◌, nat_eq, nat_lt, nat_le, Bool, true, ◌&&◌, not, List, [], ◌∷◌, ◌++◌, length, drop, IsTrue, Option, MatchOption}
+use Rattle.std.specs.List.{list_all, list_any, flat_map}
+use Rattle.std.specs.Int.{w32, to_be_bytes}
+use Rattle.manifest_rules.specs.declared.state.StateFault.{StateFault}
+use Rattle.manifest_rules.specs.declared.state.StateFault.TheVariants as fault
+use Rattle.manifest_rules.specs.declared.types.TheConstants.{DROPPED_LIMIT}
+use Rattle.manifest_rules.specs.Catalog.{Catalog, scope_ids, collection_ids, numbers_fit}
+use Rattle.manifest_rules.specs.Text.{text_of}
+use Rattle.manifest_rules.specs.Rules.{is_small, obeys_alone}
+
+-- ids in rising order
+abbrev pub are_rising : List ℕ → Bool
+are_rising [] = true
+are_rising (x ∷ []) = true
+are_rising (x ∷ y ∷ more) = nat_lt x y && are_rising (y ∷ more)
+
+-- a manifest that obeys its own rules
+abbrev pub is_sound : Catalog → Bool
+is_sound m = numbers_fit m.uid m.scopes && is_small m && obeys_alone m.scopes
+
+-- ids that may have been dropped where these are there: they rise, they aren't too many, and none is there
+abbrev pub are_gone : List ℕ → List ℕ → Bool
+are_gone ids gone =
+    list_all (λ id. nat_lt id (2 ^ 32)) gone && are_rising gone && nat_le (length gone) DROPPED_LIMIT && not (list_any (λ id. list_any (nat_eq id) gone) ids)
+
+-- a manifest that may be kept: it obeys its own rules, and ids were dropped that may have been
+abbrev pub is_kept : Catalog → Bool
+is_kept m = is_sound m && are_gone (scope_ids m.scopes) m.dropped_scopes && are_gone (collection_ids m.scopes) m.dropped_collections
+
+-- a count and as many ids, of four bytes each
+abbrev pub ids_bytes : List ℕ → List ℕ
+ids_bytes ids = to_be_bytes w32 (length ids) ++ flat_map (to_be_bytes w32) ids
+
+-- the text behind its length
+abbrev pub text_bytes : Catalog → List ℕ
+text_bytes m = to_be_bytes w32 (length (text_of m)) ++ text_of m
+
+-- the state: the text, the scope ids ever dropped, the collection ids ever dropped
+abbrev pub state_of : Catalog → List ℕ
+state_of m = text_bytes m ++ ids_bytes m.dropped_scopes ++ ids_bytes m.dropped_collections
+
+-- ---- reading
+
+-- a manifest was read: its state is this many bytes at the front
+pub record IsAt (bytes : List ℕ) (m : Catalog) (size : ℕ) : Type 0 where
+  pub kept : IsTrue (is_kept m)
+  pub front : bytes ≡ state_of m ++ drop size bytes
+  pub len : size ≡ length (state_of m)
+
+-- no text of a manifest that obeys its own rules stands at the front
+abbrev pub NoText : List ℕ → Type 0
+NoText bytes = (m : Catalog) (rest : List ℕ) → IsTrue (is_sound m) → bytes ≡ text_bytes m ++ rest → ⊥
+
+-- the manifest that obeys its own rules and has this text, with no dropped ids, where there is one
+abbrev pub SoundText : List ℕ → Option Catalog → Type 0
+SoundText text found =
+    MatchOption found ((m : Catalog) → IsTrue (is_sound m) → text ≡ text_of m → ⊥)
+    (λ m. IsTrue (is_sound m) × (text_of m ≡ text) × (m.dropped_scopes ≡ []) × (m.dropped_collections ≡ []))
+
+-- a text of such a manifest is this many bytes at the front
+pub record TextAt (bytes : List ℕ) (m : Catalog) (size : ℕ) : Type 0 where
+  pub sound : IsTrue (is_sound m)
+  pub front : bytes ≡ text_bytes m ++ drop size bytes
+  pub len : size ≡ length (text_bytes m)
+
+-- no ids that may have been dropped where these are there stand at the front
+abbrev pub NoIds : List ℕ → List ℕ → Type 0
+NoIds present bytes = (gone rest : List ℕ) → IsTrue (are_gone present gone) → bytes ≡ ids_bytes gone ++ rest → ⊥
+
+-- such ids are this many bytes at the front
+pub record IdsAt (present bytes gone : List ℕ) (size : ℕ) : Type 0 where
+  pub may : IsTrue (are_gone present gone)
+  pub front : bytes ≡ ids_bytes gone ++ drop size bytes
+  pub len : size ≡ length (ids_bytes gone)
+
+-- The bytes break the layout at a place: what stands before the place is as it is in the state of a kept manifest, and
+-- the part that has to begin there doesn't: the text, the ids of scopes, or the ids of collections.
+pub data Breaks (bytes : List ℕ) (place : ℕ) : Type 0 where
+  at_text : place ≡ 0 → NoText bytes → Breaks bytes place
+  at_scopes : (m : Catalog) → TextAt bytes m place → NoIds (scope_ids m.scopes) (drop place bytes) → Breaks bytes place
+  at_collections : (m : Catalog) (text size : ℕ) (gone : List ℕ) → TextAt bytes m text → IdsAt (scope_ids m.scopes) (drop text bytes) gone size → place ≡ text + size
+      → NoIds (collection_ids m.scopes) (drop place bytes) → Breaks bytes place
+
+-- why no manifest was read: the bytes are the front of no kept manifest's state, and break the layout at the place
+abbrev pub IsNoState : List ℕ → StateFault → Type 0
+IsNoState bytes (fault.Bad place) = Breaks bytes place × ((m : Catalog) (rest : List ℕ) → IsTrue (is_kept m) → bytes ≡ state_of m ++ rest → ⊥)
+IsNoState bytes fault.NoMemory = Unit {0}
