@@ -3,7 +3,7 @@ use Rattle.std.specs.Prelude.{ℕ, nat_eq, nat_le, Bool, true, false, ◌&&◌, 
 use Rattle.std.specs.Option.{option_map, option_map_or}
 use Rattle.doc_model.specs.declared.status.Status.{Status}
 use Rattle.doc_model.specs.declared.status.TheConstants.Status as status
-use Rattle.kv_request.specs.declared.opcode.TheConstants.{GET, GETQ, GETK, GETKQ, SET, SETQ, ADD, ADDQ, REPLACE, REPLACEQ, DELETE, DELETEQ, INCREMENT, INCREMENTQ, DECREMENT, DECREMENTQ, QUIT, QUITQ, NOOP, VERSION, APPEND, APPENDQ, PREPEND, PREPENDQ, TOUCH, GAT, HELLO, FIRST_STREAM, LAST_STREAM}
+use Rattle.kv_request.specs.declared.opcode.TheConstants.{GET, GETQ, GETK, GETKQ, SET, SETQ, ADD, ADDQ, REPLACE, REPLACEQ, DELETE, DELETEQ, INCREMENT, INCREMENTQ, DECREMENT, DECREMENTQ, QUIT, QUITQ, NOOP, VERSION, APPEND, APPENDQ, PREPEND, PREPENDQ, TOUCH, GAT, HELLO, SET_MANIFEST, GET_MANIFEST, COLLECTION_ID, SCOPE_ID, FIRST_STREAM, LAST_STREAM}
 use Rattle.kv_request.specs.declared.opcode.Command.{Command}
 use Rattle.kv_request.specs.declared.opcode.Command.TheVariants as commands
 
@@ -26,6 +26,10 @@ opcodes =
     ∷ (NOOP, commands.Noop)
     ∷ (VERSION, commands.Version)
     ∷ (HELLO, commands.Hello)
+    ∷ (SET_MANIFEST, commands.SetManifest)
+    ∷ (GET_MANIFEST, commands.GetManifest)
+    ∷ (COLLECTION_ID, commands.CollectionId)
+    ∷ (SCOPE_ID, commands.ScopeId)
     ∷ []
 
 -- each quiet opcode with the loud one that asks for the same
@@ -103,6 +107,10 @@ form_of commands.Quit = record { extras = 0; key = MustNot; value = MustNot }
 form_of commands.Noop = record { extras = 0; key = MustNot; value = MustNot }
 form_of commands.Version = record { extras = 0; key = MustNot; value = MustNot }
 form_of commands.Hello = record { extras = 0; key = May; value = May }
+form_of commands.SetManifest = record { extras = 0; key = MustNot; value = Must }
+form_of commands.GetManifest = record { extras = 0; key = MustNot; value = MustNot }
+form_of commands.CollectionId = record { extras = 0; key = May; value = May }
+form_of commands.ScopeId = record { extras = 0; key = May; value = May }
 
 -- whether the key is a document's
 abbrev pub names_document : Command → Bool
@@ -110,6 +118,10 @@ names_document commands.Quit = false
 names_document commands.Noop = false
 names_document commands.Version = false
 names_document commands.Hello = false
+names_document commands.SetManifest = false
+names_document commands.GetManifest = false
+names_document commands.CollectionId = false
+names_document commands.ScopeId = false
 names_document command = true
 
 -- whether the reply to this command tells the key

@@ -1,15 +1,16 @@
 -- The request that a frame is, or the status of the first check that it fails, and the frame that a reply is.
-use Rattle.std.specs.Prelude.{◌≡◌, ℕ, ◌+◌, ◌*◌, ◌%◌, ◌^◌, ◌<◌, ◌≤◌, nat_eq, nat_le, Bool, true, false, ◌&&◌, ◌||◌, unwrap_or, find, count_by, slice_index, List, [], ◌∷◌, ◌++◌, length, take, drop, Option, Some, None, Result, Ok, Err, if◌then◌else◌}
+use Rattle.std.specs.Prelude.{◌≡◌, ℕ, ◌+◌, ◌*◌, ◌%◌, ◌^◌, ◌<◌, ◌≤◌, nat_eq, nat_le, Bool, true, false, ◌&&◌, ◌||◌, not, is_some, unwrap_or, option_and_then, find, count_by, slice_index, List, [], ◌∷◌, ◌++◌, length, take, drop, Option, Some, None, Result, Ok, Err, if◌then◌else◌}
 use Rattle.std.specs.Option.{option_map_or, IfSome}
 use Rattle.std.specs.Int.{w16, w32, w64, from_be_bytes, to_be_bytes}
 use Rattle.kv_frame.specs.declared.frame.Frame.{Frame}
 use Rattle.kv_frame.specs.declared.frame.FrameExtra.{FrameExtra}
 use Rattle.kv_frame.specs.declared.frame.Magic.TheVariants as magics
 use Rattle.kv_frame.specs.Grammar.{Fits}
+use Rattle.leb_collections.specs.Functions.{id_at, id_bytes}
 use Rattle.doc_model.specs.declared.key.DocKey.{DocKey}
 use Rattle.doc_model.specs.declared.status.Status.{Status}
 use Rattle.doc_model.specs.declared.status.TheConstants.Status as status
-use Rattle.kv_request.specs.declared.reading.TheConstants.{KEY_LIMIT, VALUE_LIMIT, DURABILITY, USUAL_TIMEOUT}
+use Rattle.kv_request.specs.declared.reading.TheConstants.{KEY_LIMIT, OTHER_KEY_LIMIT, VALUE_LIMIT, MANIFEST_LIMIT, DURABILITY, USUAL_TIMEOUT}
 use Rattle.kv_request.specs.declared.opcode.Command.{Command}
 use Rattle.kv_request.specs.declared.opcode.Command.TheVariants as commands
 use Rattle.kv_request.specs.declared.request.Features.{Features}
@@ -84,9 +85,40 @@ abbrev pub is_even : Command → ℕ → Bool
 is_even commands.Hello size = nat_eq (size % 2) 0
 is_even command size = true
 
--- whether a document's key is no longer than it may be
-abbrev pub is_key : Command → ℕ → Bool
-is_key command size = if names_document command then nat_le size KEY_LIMIT else true
+-- whether just one of two tests holds
+abbrev pub is_one : Bool → Bool → Bool
+is_one true b = not b
+is_one false b = b
+
+-- whether the path of a collection or a scope is there just once, as key or as value
+abbrev pub has_one_path : Command → ℕ → ℕ → Bool
+has_one_path commands.CollectionId key value = is_one (nat_eq key 0) (nat_eq value 0)
+has_one_path commands.ScopeId key value = is_one (nat_eq key 0) (nat_eq value 0)
+has_one_path command key value = true
+
+-- how many bytes the name of a document has at most, behind its collection
+abbrev pub name_limit : ℕ → ℕ
+name_limit collection = if nat_eq collection 0 then KEY_LIMIT else OTHER_KEY_LIMIT
+
+-- a key that a document may have, or nothing
+abbrev pub key_within : ℕ → List ℕ → Option DocKey
+key_within collection name =
+    if nat_le 1 (length name) && nat_le (length name) (name_limit collection) then Some (record { collection = collection; key = name }) else None
+
+-- the document's key that bytes spell: where collections are granted it begins with the id of one, else it is in the
+-- collection that is there from the start
+abbrev pub key_from : Bool → List ℕ → Option DocKey
+key_from true bytes = option_and_then (λ x. key_within x.0 x.1) (id_at bytes)
+key_from false bytes = key_within 0 bytes
+
+-- whether the key is one that a document may have, where it is a document's
+abbrev pub is_key : Features → Command → List ℕ → Bool
+is_key features command key = if names_document command then is_some (key_from features.collections key) else true
+
+-- how many bytes a value has at most
+abbrev pub value_limit : Command → ℕ
+value_limit commands.SetManifest = MANIFEST_LIMIT
+value_limit command = VALUE_LIMIT
 
 -- whether the command takes this CAS: an Add, which finds no document, takes none but 0
 abbrev pub is_cas_taken : Command → ℕ → Bool
@@ -94,8 +126,8 @@ is_cas_taken commands.Add cas = nat_eq cas 0
 is_cas_taken command cas = true
 
 -- the checks of a request's frame in their order, each with the status of a frame that fails it
-abbrev pub checks : Frame → Command → List (Bool × Status)
-checks frame command =
+abbrev pub checks : Features → Frame → Command → List (Bool × Status)
+checks features frame command =
     (nat_le frame.datatype 1, status.EINVAL)
     ∷ (nat_le (level_count frame) 1, status.EINVAL)
     ∷ (is_level_form command (level_extra frame), status.EINVAL)
@@ -103,8 +135,9 @@ checks frame command =
     ∷ (has_level (level_extra frame), status.DURABILITY_INVALID_LEVEL)
     ∷ (has_form frame command, status.EINVAL)
     ∷ (is_even command (length frame.value), status.EINVAL)
-    ∷ (is_key command (length frame.key), status.EINVAL)
-    ∷ (nat_le (length frame.value) VALUE_LIMIT, status.E2BIG)
+    ∷ (has_one_path command (length frame.key) (length frame.value), status.EINVAL)
+    ∷ (is_key features command frame.key, status.EINVAL)
+    ∷ (nat_le (length frame.value) (value_limit command), status.E2BIG)
     ∷ (is_cas_taken command frame.cas, status.EINVAL)
     ∷ []
 
@@ -113,9 +146,13 @@ abbrev pub first_failing : List (Bool × Status) → Option Status
 first_failing [] = None
 first_failing (check ∷ others) = if check.0 then first_failing others else Some check.1
 
--- the key that a frame names
-abbrev pub key_of : Frame → DocKey
-key_of frame = record { collection = 0; key = frame.key }
+-- no document's key
+abbrev pub no_key : DocKey
+no_key = record { collection = 0; key = [] }
+
+-- the document's key that a frame names
+abbrev pub key_of : Features → Frame → DocKey
+key_of features frame = unwrap_or (key_from features.collections frame.key) no_key
 
 -- the numbers of two bytes each that bytes are
 abbrev pub pairs_of : List ℕ → List ℕ
@@ -124,60 +161,68 @@ pairs_of (last ∷ []) = []
 pairs_of (high ∷ low ∷ others) = (256 * high + low) ∷ pairs_of others
 
 -- a document to store: extras are flags and expiry
-abbrev pub stored : Frame → Mode → Body
-stored frame mode = bodies.Store (key_of frame) mode (word_at 0 frame.extras) (word_at 4 frame.extras) frame.value
+abbrev pub stored : Features → Frame → Mode → Body
+stored features frame mode = bodies.Store (key_of features frame) mode (word_at 0 frame.extras) (word_at 4 frame.extras) frame.value
 
 -- a number to count: extras are delta, initial value and expiry
-abbrev pub counted : Frame → Bool → Body
-counted frame up = bodies.Count (key_of frame) up (long_at 0 frame.extras) (long_at 8 frame.extras) (word_at 16 frame.extras)
+abbrev pub counted : Features → Frame → Bool → Body
+counted features frame up = bodies.Count (key_of features frame) up (long_at 0 frame.extras) (long_at 8 frame.extras) (word_at 16 frame.extras)
 
 -- bytes to add to a value
-abbrev pub joined : Frame → Bool → Body
-joined frame front = bodies.Join (key_of frame) front frame.value
+abbrev pub joined : Features → Frame → Bool → Body
+joined features frame front = bodies.Join (key_of features frame) front frame.value
 
 -- a document to give an expiry: extras are the expiry
-abbrev pub touched : Frame → Bool → Body
-touched frame fetch = bodies.Touch (key_of frame) (word_at 0 frame.extras) fetch
+abbrev pub touched : Features → Frame → Bool → Body
+touched features frame fetch = bodies.Touch (key_of features frame) (word_at 0 frame.extras) fetch
+
+-- the path of a collection or a scope, which is the key or the value
+abbrev pub path_of : Frame → List ℕ
+path_of frame = if nat_eq (length frame.key) 0 then frame.value else frame.key
 
 -- what the request of a frame asks for
-abbrev pub body_of : Frame → Command → Body
-body_of frame commands.Get = bodies.Get (key_of frame)
-body_of frame commands.GetKey = bodies.Get (key_of frame)
-body_of frame commands.Set = stored frame modes.Set
-body_of frame commands.Add = stored frame modes.Add
-body_of frame commands.Replace = stored frame modes.Replace
-body_of frame commands.Delete = bodies.Delete (key_of frame)
-body_of frame commands.Increment = counted frame true
-body_of frame commands.Decrement = counted frame false
-body_of frame commands.Append = joined frame false
-body_of frame commands.Prepend = joined frame true
-body_of frame commands.Touch = touched frame false
-body_of frame commands.GetAndTouch = touched frame true
-body_of frame commands.Quit = bodies.Quit
-body_of frame commands.Noop = bodies.Noop
-body_of frame commands.Version = bodies.Version
-body_of frame commands.Hello = bodies.Hello (pairs_of frame.value)
+abbrev pub body_of : Features → Frame → Command → Body
+body_of features frame commands.Get = bodies.Get (key_of features frame)
+body_of features frame commands.GetKey = bodies.Get (key_of features frame)
+body_of features frame commands.Set = stored features frame modes.Set
+body_of features frame commands.Add = stored features frame modes.Add
+body_of features frame commands.Replace = stored features frame modes.Replace
+body_of features frame commands.Delete = bodies.Delete (key_of features frame)
+body_of features frame commands.Increment = counted features frame true
+body_of features frame commands.Decrement = counted features frame false
+body_of features frame commands.Append = joined features frame false
+body_of features frame commands.Prepend = joined features frame true
+body_of features frame commands.Touch = touched features frame false
+body_of features frame commands.GetAndTouch = touched features frame true
+body_of features frame commands.Quit = bodies.Quit
+body_of features frame commands.Noop = bodies.Noop
+body_of features frame commands.Version = bodies.Version
+body_of features frame commands.Hello = bodies.Hello (pairs_of frame.value)
+body_of features frame commands.SetManifest = bodies.SetManifest frame.value
+body_of features frame commands.GetManifest = bodies.GetManifest
+body_of features frame commands.CollectionId = bodies.CollectionId (path_of frame)
+body_of features frame commands.ScopeId = bodies.ScopeId (path_of frame)
 
 -- the request of a frame that passes every check
-abbrev pub request_of : Frame → Command → Request
-request_of frame command = record {
+abbrev pub request_of : Features → Frame → Command → Request
+request_of features frame command = record {
   opcode = frame.opcode;
   opaque = frame.opaque;
   cas = frame.cas;
   vbucket = frame.word;
   durability = durability_of (level_extra frame);
-  body = body_of frame command;
+  body = body_of features frame command;
 }
 
 -- the request that a frame with a known opcode is, or why it is none
-abbrev pub checked : Frame → Command → Result Request Status
-checked frame command = option_map_or (λ failing. Err failing) (first_failing (checks frame command)) (Ok (request_of frame command))
+abbrev pub checked : Features → Frame → Command → Result Request Status
+checked features frame command = option_map_or (λ failing. Err failing) (first_failing (checks features frame command)) (Ok (request_of features frame command))
 
 -- the request that a frame is, or the status of the first check that it fails
 abbrev pub request : Features → Frame → Result Request Status
 request features frame =
     if is_of_streams frame.opcode then Err status.NOT_SUPPORTED
-    else option_map_or (checked frame) (command_of frame.opcode) (Err status.UNKNOWN_COMMAND)
+    else option_map_or (checked features frame) (command_of frame.opcode) (Err status.UNKNOWN_COMMAND)
 
 -- four bytes of flags, where there are flags
 abbrev pub flags_bytes : Option ℕ → List ℕ
@@ -190,10 +235,20 @@ token_bytes false token = []
 token_bytes true None = []
 token_bytes true (Some token) = to_be_bytes w64 token.0 ++ to_be_bytes w64 token.1
 
--- the bytes of a key
-abbrev pub key_bytes : Option DocKey → List ℕ
-key_bytes None = []
-key_bytes (Some key) = key.key
+-- the bytes of a key as the client spells it: where collections are granted its collection's id comes first
+abbrev pub key_spelling : Bool → DocKey → List ℕ
+key_spelling true key = id_bytes key.collection ++ key.key
+key_spelling false key = key.key
+
+-- the bytes of a key, where there is one
+abbrev pub key_bytes : Bool → Option DocKey → List ℕ
+key_bytes granted None = []
+key_bytes granted (Some key) = key_spelling granted key
+
+-- how many bytes the name of a document has, where there is one
+abbrev pub name_length : Option DocKey → ℕ
+name_length None = 0
+name_length (Some key) = length key.key
 
 -- the frame of a reply
 abbrev pub frame : Features → Reply → Frame
@@ -206,7 +261,7 @@ frame features reply = record {
   cas = reply.cas;
   framing = [];
   extras = flags_bytes reply.flags ++ (token_bytes features.token reply.token ++ reply.extras);
-  key = key_bytes reply.key;
+  key = key_bytes features.collections reply.key;
   value = reply.value;
 }
 
@@ -225,7 +280,7 @@ pub record IsSmallReply (reply : Reply) : Type 0 where
   pub opaque : reply.opaque < 2 ^ 32
   pub cas : reply.cas < 2 ^ 64
   pub extras : length reply.extras ≤ 12
-  pub key : length (key_bytes reply.key) ≤ KEY_LIMIT + 1
+  pub key : name_length reply.key ≤ KEY_LIMIT
   pub value : length reply.value ≤ VALUE_LIMIT + 100
 
 -- an empty reply with this status
@@ -242,6 +297,10 @@ key_named (bodies.Hello wanted) = None
 key_named bodies.Noop = None
 key_named bodies.Version = None
 key_named bodies.Quit = None
+key_named (bodies.SetManifest text) = None
+key_named bodies.GetManifest = None
+key_named (bodies.CollectionId path) = None
+key_named (bodies.ScopeId path) = None
 key_named (bodies.Get key) = Some key
 key_named (bodies.Store key mode flags expiry value) = Some key
 key_named (bodies.Delete key) = Some key
@@ -251,7 +310,7 @@ key_named (bodies.Touch key expiry fetch) = Some key
 
 -- the document's key that a request names, and an empty one where it names none
 abbrev pub document_key : Body → DocKey
-document_key body = unwrap_or (key_named body) (record { collection = 0; key = [] })
+document_key body = unwrap_or (key_named body) no_key
 
 -- the value that a request brings
 abbrev pub value_brought : Body → List ℕ
@@ -259,6 +318,10 @@ value_brought (bodies.Hello wanted) = []
 value_brought bodies.Noop = []
 value_brought bodies.Version = []
 value_brought bodies.Quit = []
+value_brought (bodies.SetManifest text) = text
+value_brought bodies.GetManifest = []
+value_brought (bodies.CollectionId path) = path
+value_brought (bodies.ScopeId path) = path
 value_brought (bodies.Get key) = []
 value_brought (bodies.Store key mode flags expiry value) = value
 value_brought (bodies.Delete key) = []
@@ -266,10 +329,19 @@ value_brought (bodies.Count key up delta initial expiry) = []
 value_brought (bodies.Join key front value) = value
 value_brought (bodies.Touch key expiry fetch) = []
 
+-- whether a session answers a request by itself, since it asks nothing of a vbucket
+abbrev pub is_for_session : Body → Bool
+is_for_session (bodies.Hello wanted) = true
+is_for_session bodies.Noop = true
+is_for_session bodies.Version = true
+is_for_session bodies.Quit = true
+is_for_session body = false
+
 -- a key that a document may have
 pub record IsSmallKey (key : DocKey) : Type 0 where
   pub not_empty : 1 ≤ length key.key
-  pub within : length key.key ≤ KEY_LIMIT
+  pub within : length key.key ≤ name_limit key.collection
+  pub collection : key.collection < 2 ^ 32
 
 -- a request whose numbers fit their fields, and whose key and value are within their limits
 pub record IsSmallRequest (made : Request) : Type 0 where

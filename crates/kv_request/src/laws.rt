@@ -6,11 +6,14 @@ ghost use Rattle.kv_request.specs.Tables.{IsReply, IsSmallReply, IsRequest, IsSm
 ghost use Rattle.std.specs.Prelude.{◌≡◌};
 
 use crate::opcode::{
-    ADD, ADDQ, APPEND, APPENDQ, DECREMENT, DECREMENTQ, DELETE, DELETEQ, FIRST_STREAM, GAT, GET,
-    GETK, GETKQ, GETQ, HELLO, INCREMENT, INCREMENTQ, LAST_STREAM, NOOP, PREPEND, PREPENDQ, QUIT,
-    QUITQ, REPLACE, REPLACEQ, SET, SETQ, TOUCH, VERSION,
+    ADD, ADDQ, APPEND, APPENDQ, COLLECTION_ID, DECREMENT, DECREMENTQ, DELETE, DELETEQ,
+    FIRST_STREAM, GAT, GET, GET_MANIFEST, GETK, GETKQ, GETQ, HELLO, INCREMENT, INCREMENTQ,
+    LAST_STREAM, NOOP, PREPEND, PREPENDQ, QUIT, QUITQ, REPLACE, REPLACEQ, SCOPE_ID, SET,
+    SET_MANIFEST, SETQ, TOUCH, VERSION,
 };
-use crate::reading::{DURABILITY, KEY_LIMIT, USUAL_TIMEOUT, VALUE_LIMIT};
+use crate::reading::{
+    DURABILITY, KEY_LIMIT, MANIFEST_LIMIT, OTHER_KEY_LIMIT, USUAL_TIMEOUT, VALUE_LIMIT,
+};
 
 /// A reply whose numbers fit and whose parts are short has a frame with a spelling, whatever was granted: the
 /// longest such frame is below the greatest body.
@@ -27,6 +30,8 @@ pub fn requests_are_small()
 /// The limits and the opcodes are these numbers.
 pub fn request_numbers()
     ensures key_limit { KEY_LIMIT ≡ 250 }
+    ensures other_key_limit { OTHER_KEY_LIMIT ≡ 246 }
+    ensures manifest_limit { MANIFEST_LIMIT ≡ 1048576 }
     ensures value_limit { VALUE_LIMIT ≡ 20971520 }
     ensures durability { DURABILITY ≡ 1 }
     ensures usual_timeout { USUAL_TIMEOUT ≡ 30000 }
@@ -57,6 +62,10 @@ pub fn request_numbers()
     ensures touch { TOUCH ≡ 28 }
     ensures gat { GAT ≡ 29 }
     ensures hello { HELLO ≡ 31 }
+    ensures set_manifest { SET_MANIFEST ≡ 185 }
+    ensures get_manifest { GET_MANIFEST ≡ 186 }
+    ensures collection_id { COLLECTION_ID ≡ 187 }
+    ensures scope_id { SCOPE_ID ≡ 188 }
     ensures first_stream { FIRST_STREAM ≡ 80 }
     ensures last_stream { LAST_STREAM ≡ 111 }
 {}

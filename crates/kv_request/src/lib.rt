@@ -8,9 +8,10 @@
 //! 3. Of the framing extras those of id 1 ask for a level of durability: there is at most one, it has one byte or three,
 //!    and the opcode takes it, else Einval. Its timeout, the last two bytes, isn't 0, else Einval. Its level, the first
 //!    byte, is 1 to 3, else DurabilityInvalidLevel. Other framing extras are skipped.
-//! 4. Extras, key and value are there as the opcode asks, and the value of a Hello has an even length, else Einval.
-//! 5. The key of a document has 1 to 250 bytes, else Einval.
-//! 6. The value has at most 20,971,520 bytes, else E2big.
+//! 4. Extras, key and value are there as the opcode asks, the value of a Hello has an even length, and of a path's key
+//!    and value just one is there, else Einval.
+//! 5. The key of a document spells one, else Einval ("Keys").
+//! 6. The value has at most 20,971,520 bytes, and the text of a manifest at most 1,048,576, else E2big.
 //! 7. An Add has the CAS 0, else Einval.
 //!
 //! | Opcode (quiet) | Name | Extras | Key | Value | Level | Reply |
@@ -27,8 +28,18 @@
 //! | 0a | Noop | none | no | no | | empty |
 //! | 0b | Version | none | no | no | | value: the version |
 //! | 1f | Hello | none | may be | may be | | value: the features granted |
+//! | b9 | SetManifest | none | no | yes | | empty |
+//! | ba | GetManifest | none | no | no | | value: the manifest |
+//! | bb, bc | CollectionId, ScopeId | none | a path | or a path | | extras: manifest's uid u64, id u32 |
 //!
 //! A quiet Get or GetK leaves a miss unsent, every other quiet opcode a success.
+//!
+//! # Keys
+//!
+//! Where collections are granted, a document's key begins with the id of its collection in shortest LEB128
+//! (`leb_collections`), and the document's name follows: `08 61` is `a` in collection 8. The key of a reply is spelled
+//! in the same way. Where they aren't granted the whole key is a name in collection 0. A name has at least one byte, and
+//! at most 250 in collection 0 and 246 in any other.
 #![tactic(auto)]
 
 mod laws;
@@ -40,7 +51,10 @@ mod writing;
 
 pub use laws::{request_numbers, requests_are_small, small_replies};
 pub use opcode::Command;
-pub use reading::{DURABILITY, KEY_LIMIT, USUAL_TIMEOUT, VALUE_LIMIT, read_request};
+pub use reading::{
+    DURABILITY, KEY_LIMIT, MANIFEST_LIMIT, OTHER_KEY_LIMIT, USUAL_TIMEOUT, VALUE_LIMIT,
+    read_request,
+};
 pub use reply::{Reply, refusal};
 pub use request::{Body, Durability, Features, Mode, Request};
 pub use writing::write_reply;

@@ -84,6 +84,18 @@ pub const GAT: u8 = 0x1d;
 /// Hello: asks for features.
 pub const HELLO: u8 = 0x1f;
 
+/// Set manifest: which scopes and collections there are.
+pub const SET_MANIFEST: u8 = 0xb9;
+
+/// Get manifest: the text of the manifest that is there.
+pub const GET_MANIFEST: u8 = 0xba;
+
+/// Get collection id: the id of a scope's collection.
+pub const COLLECTION_ID: u8 = 0xbb;
+
+/// Get scope id: the id of a scope.
+pub const SCOPE_ID: u8 = 0xbc;
+
 /// The first and the last opcode of streams between nodes.
 pub const FIRST_STREAM: u8 = 0x50;
 
@@ -109,6 +121,10 @@ pub enum Command {
     Noop,
     Version,
     Hello,
+    SetManifest,
+    GetManifest,
+    CollectionId,
+    ScopeId,
 }
 
 impl Command {
@@ -135,6 +151,10 @@ impl Command {
             NOOP => Some(Command::Noop),
             VERSION => Some(Command::Version),
             HELLO => Some(Command::Hello),
+            SET_MANIFEST => Some(Command::SetManifest),
+            GET_MANIFEST => Some(Command::GetManifest),
+            COLLECTION_ID => Some(Command::CollectionId),
+            SCOPE_ID => Some(Command::ScopeId),
             _ => None,
         }
     }
@@ -145,7 +165,14 @@ impl Command {
     {
         !matches!(
             self,
-            Command::Quit | Command::Noop | Command::Version | Command::Hello
+            Command::Quit
+                | Command::Noop
+                | Command::Version
+                | Command::Hello
+                | Command::SetManifest
+                | Command::GetManifest
+                | Command::CollectionId
+                | Command::ScopeId
         )
     }
 

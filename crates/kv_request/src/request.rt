@@ -86,6 +86,20 @@ pub enum Body {
         expiry: u32,
         fetch: bool,
     },
+    /// A manifest to take the place of the one that is there.
+    SetManifest {
+        text: Bytes,
+    },
+    /// The manifest that is there.
+    GetManifest,
+    /// The id of the collection of a path `scope.collection`.
+    CollectionId {
+        path: Bytes,
+    },
+    /// The id of the scope of a path `scope`.
+    ScopeId {
+        path: Bytes,
+    },
 }
 
 /// A request. Its CAS is 0 where any document will do, else the one that the document is to have.
@@ -152,6 +166,16 @@ impl Copied for Body {
                 key: key.copy(alloc)?,
                 expiry: *expiry,
                 fetch: *fetch,
+            }),
+            Body::SetManifest { text } => Ok(Body::SetManifest {
+                text: text.copy(alloc)?,
+            }),
+            Body::GetManifest => Ok(Body::GetManifest),
+            Body::CollectionId { path } => Ok(Body::CollectionId {
+                path: path.copy(alloc)?,
+            }),
+            Body::ScopeId { path } => Ok(Body::ScopeId {
+                path: path.copy(alloc)?,
             }),
         }
     }

@@ -13,6 +13,12 @@ const NOTHING_GRANTED: Features = Features {
     collections: false,
 };
 
+const COLLECTIONS_GRANTED: Features = Features {
+    token: false,
+    json: false,
+    collections: true,
+};
+
 const ALL_GRANTED: Features = Features {
     token: true,
     json: true,
@@ -103,6 +109,28 @@ fn a_get_is_read_with_all_its_parts(rt: HostRuntime) -> Result<(), Fail> {
 }
 
 #[test]
+fn a_get_in_a_collection_is_read_with_all_its_parts(rt: HostRuntime) -> Result<(), Fail> {
+    let alloc = rt.alloc();
+    let text = "80 00 0002 00 00 0000 00000002 deadbeef 0000000000000000 0861";
+    let get = frame_of(alloc, text)?;
+    let wanted = Request {
+        opcode: 0x00,
+        opaque: 0xdead_beef,
+        cas: 0,
+        vbucket: 0,
+        durability: None,
+        body: Body::Get {
+            key: DocKey {
+                collection: 8,
+                key: Bytes::from_slice(alloc, b"a")?,
+            },
+        },
+    };
+    assert_eq!(rt; read_request(alloc, &get, &COLLECTIONS_GRANTED)?, wanted);
+    Ok(())
+}
+
+#[test]
 fn a_quiet_set_is_read_with_all_its_parts(rt: HostRuntime) -> Result<(), Fail> {
     let alloc = rt.alloc();
     let text = "80 11 0001 08 01 03ff 0000000b 00000001 0102030405060708 0000002a 00000e10 61 6869";
@@ -163,6 +191,10 @@ fn kind(body: &Body) -> &'static str {
         Body::Join { front: false, .. } => "behind",
         Body::Touch { fetch: true, .. } => "touch and get",
         Body::Touch { fetch: false, .. } => "touch",
+        Body::SetManifest { .. } => "set manifest",
+        Body::GetManifest => "get manifest",
+        Body::CollectionId { .. } => "collection",
+        Body::ScopeId { .. } => "scope",
     }
 }
 
@@ -197,6 +229,9 @@ fn each_opcode_asks_for_its_own(rt: HostRuntime) -> Result<(), Fail> {
         (0x1c, 4, 1, "touch"),
         (0x1d, 4, 1, "touch and get"),
         (0x1f, 0, 0, "hello"),
+        (0xba, 0, 0, "get manifest"),
+        (0xbb, 0, 1, "collection"),
+        (0xbc, 0, 1, "scope"),
     ];
     for (opcode, extras, letters, wanted) in rows {
         let frame = frame_with(alloc, opcode, extras, letters)?;
@@ -353,6 +388,41 @@ fn the_first_check_that_fails_gives_the_status(rt: HostRuntime) -> Result<(), Fa
             0x0004,
         ),
         (
+            "a manifest to set, without a text",
+            "80 b9 0000 00 00 0000 00000000 00000001 0000000000000000",
+            0x0004,
+        ),
+        (
+            "a manifest to set, with a key",
+            "80 b9 0001 00 00 0000 00000003 00000001 0000000000000000 61 7b7d",
+            0x0004,
+        ),
+        (
+            "a manifest to get, with a value",
+            "80 ba 0000 00 00 0000 00000002 00000001 0000000000000000 7b7d",
+            0x0004,
+        ),
+        (
+            "a collection without a path",
+            "80 bb 0000 00 00 0000 00000000 00000001 0000000000000000",
+            0x0004,
+        ),
+        (
+            "a collection with two paths",
+            "80 bb 0003 00 00 0000 00000006 00000001 0000000000000000 732e63 732e63",
+            0x0004,
+        ),
+        (
+            "a scope without a path",
+            "80 bc 0000 00 00 0000 00000000 00000001 0000000000000000",
+            0x0004,
+        ),
+        (
+            "a scope with two paths",
+            "80 bc 0001 00 00 0000 00000002 00000001 0000000000000000 73 73",
+            0x0004,
+        ),
+        (
             "a Replace with a CAS",
             "80 03 0001 08 00 0000 00000009 00000001 0000000000000001 0000000000000000 61",
             0x0000,
@@ -376,6 +446,124 @@ fn the_longest_key_and_value_pass_and_no_longer_ones(rt: HostRuntime) -> Result<
     assert_eq!(rt; outcome(alloc, &frame)?, (0x0003, None));
     frame.key = Bytes::from_vec(vec![in alloc; b'k'; 251]?);
     assert_eq!(rt; outcome(alloc, &frame)?, (0x0004, None));
+    Ok(())
+}
+
+#[test]
+fn the_longest_manifest_passes_and_no_longer_one(rt: HostRuntime) -> Result<(), Fail> {
+    let alloc = rt.alloc();
+    let mut frame = frame_with(alloc, 0xb9, 0, 0)?;
+    frame.value = Bytes::from_vec(vec![in alloc; b' '; 1_048_576]?);
+    assert_eq!(rt; outcome(alloc, &frame)?, (0x0000, None));
+    frame.value = Bytes::from_vec(vec![in alloc; b' '; 1_048_577]?);
+    assert_eq!(rt; outcome(alloc, &frame)?, (0x0003, None));
+    Ok(())
+}
+
+/// The text or the path that a request on manifests brings.
+fn brought(body: &Body) -> &[u8] {
+    match body {
+        Body::SetManifest { text } => text.as_slice(),
+        Body::CollectionId { path } | Body::ScopeId { path } => path.as_slice(),
+        _ => b"",
+    }
+}
+
+#[test]
+fn a_manifest_is_the_value_and_a_path_is_key_or_value(rt: HostRuntime) -> Result<(), Fail> {
+    let alloc = rt.alloc();
+    let rows = [
+        (
+            "80 b9 0000 00 00 0000 00000002 00000001 0000000000000000 7b7d",
+            "set manifest",
+            "{}",
+        ),
+        (
+            "80 bb 0003 00 00 0000 00000003 00000001 0000000000000000 732e63",
+            "collection",
+            "s.c",
+        ),
+        (
+            "80 bb 0000 00 00 0000 00000003 00000001 0000000000000000 732e63",
+            "collection",
+            "s.c",
+        ),
+        (
+            "80 bc 0003 00 00 0000 00000003 00000001 0000000000000000 732e63",
+            "scope",
+            "s.c",
+        ),
+        (
+            "80 bc 0000 00 00 0000 00000003 00000001 0000000000000000 732e63",
+            "scope",
+            "s.c",
+        ),
+    ];
+    for (text, name, wanted) in rows {
+        let frame = frame_of(alloc, text)?;
+        let made = read_request(alloc, &frame, &COLLECTIONS_GRANTED)?;
+        assert_eq!(rt; kind(&made.body), name, "{text}");
+        assert_eq!(rt; brought(&made.body), wanted.as_bytes(), "{text}");
+    }
+    Ok(())
+}
+
+/// The collection of a Get's key and how many bytes its name has, or nothing where the key is refused.
+fn split(alloc: Global, key: Bytes, features: &Features) -> Result<Option<(u32, usize)>, Fail> {
+    let mut get = frame_with(alloc, 0x00, 0, 0)?;
+    get.key = key;
+    match read_request(alloc, &get, features) {
+        Ok(made) => match made.body {
+            Body::Get { key } => Ok(Some((key.collection, key.key.len()))),
+            _ => Err("it is no Get")?,
+        },
+        Err(Refused::Status(Status { code: 0x0004 })) => Ok(None),
+        Err(_) => Err("it is refused with another status")?,
+    }
+}
+
+#[test]
+fn a_key_begins_with_its_collection_where_those_are_granted(rt: HostRuntime) -> Result<(), Fail> {
+    let alloc = rt.alloc();
+    let rows = [
+        ("0861", Some((8, 1))),
+        ("0061", Some((0, 1))),
+        ("b9646b6579", Some((12857, 3))),
+        ("ffffffff0f61", Some((0xffff_ffff, 1))),
+        ("800061", None),
+        ("ffffffff1f61", None),
+        ("80", None),
+        ("08", None),
+        ("00", None),
+    ];
+    for (spelling, wanted) in rows {
+        let key = Bytes::from_vec(hex(alloc, spelling)?);
+        assert_eq!(rt;
+            split(alloc, key, &COLLECTIONS_GRANTED)?,
+            wanted,
+            "{spelling}"
+        );
+    }
+    let key = Bytes::from_vec(hex(alloc, "0861")?);
+    assert_eq!(rt; split(alloc, key, &NOTHING_GRANTED)?, Some((0, 2)));
+    Ok(())
+}
+
+#[test]
+fn names_are_longer_in_the_first_collection_than_elsewhere(rt: HostRuntime) -> Result<(), Fail> {
+    let alloc = rt.alloc();
+    let rows = [
+        (0, 250, true),
+        (0, 251, false),
+        (8, 246, true),
+        (8, 247, false),
+    ];
+    for (collection, length, passes) in rows {
+        let mut key = vec![in alloc; b'k'; 1 + length]?;
+        key[0] = collection;
+        let key = split(alloc, Bytes::from_vec(key), &COLLECTIONS_GRANTED)?;
+        assert_eq!(rt; key.is_some(), passes, "{collection}, {length}");
+    }
     Ok(())
 }
 
@@ -405,7 +593,10 @@ fn a_reply_to_a_get_has_its_flags_in_front(rt: HostRuntime) -> Result<(), Fail> 
         flags: Some(42),
         token: Some((4, 9)),
         extras: Bytes::from_slice(alloc, b"e")?,
-        key: Some(key(alloc, b"a")?),
+        key: Some(DocKey {
+            collection: 8,
+            key: Bytes::from_slice(alloc, b"a")?,
+        }),
         value: Bytes::from_slice(alloc, b"hi")?,
     };
     let plain = write_reply(alloc, &reply, &NOTHING_GRANTED)?.ok_or("it is sent")?;
@@ -421,6 +612,7 @@ fn a_reply_to_a_get_has_its_flags_in_front(rt: HostRuntime) -> Result<(), Fail> 
 
     let full = write_reply(alloc, &reply, &ALL_GRANTED)?.ok_or("it is sent")?;
     assert_eq!(rt; full.datatype, 1);
+    assert_eq!(rt; full.key.as_slice(), [0x08, b'a'].as_slice());
     let wanted = hex(alloc, "0000002a 0000000000000004 0000000000000009 65")?;
     assert_eq!(rt; full.extras.as_slice(), wanted.as_slice());
     Ok(())

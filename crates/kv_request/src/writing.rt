@@ -1,12 +1,15 @@
 ghost use Rattle.std.specs.Prelude.{◌≡◌, ◌++◌, IfOk};
 ghost use Rattle.kv_request.specs.Tables.{sent, flags_bytes, token_bytes, key_bytes};
+ghost use Rattle.leb_collections.specs.Functions.{id_bytes};
 
 use crate::opcode::is_unsent;
 use crate::reading::JSON;
 use crate::reply::Reply;
 use crate::request::Features;
+use doc_model::DocKey;
 use kv_edge::{Bytes, Copied, NoMemory, Seq};
 use kv_frame::{Frame, Magic};
+use leb_collections::write_id;
 use std::alloc::Global;
 
 /// The frame of a reply, or nothing where its opcode is quiet and leaves this status unsent.
@@ -21,7 +24,7 @@ pub fn write_reply(
         return Ok(None);
     }
     let extras = extras(alloc, reply, features)?;
-    let key = key(alloc, reply)?;
+    let key = key(alloc, reply, features)?;
     let value = reply.value.copy(alloc)?;
     Ok(Some(Frame {
         magic: Magic::Reply,
@@ -56,11 +59,30 @@ fn extras(alloc: Global, reply: &Reply, features: &Features) -> Result<Bytes, No
 }
 
 /// The bytes of a reply's key.
-fn key(alloc: Global, reply: &Reply) -> Result<Bytes, NoMemory>
-    ensures { IfOk result (λ made. made ≡ key_bytes reply.now.key) }
+fn key(alloc: Global, reply: &Reply, features: &Features) -> Result<Bytes, NoMemory>
+    ensures { IfOk result (λ made. made ≡ key_bytes features.now.collections reply.now.key) }
 {
     match &reply.key {
-        Some(key) => key.key.copy(alloc),
+        Some(key) => {
+            if features.collections {
+                spell_key(alloc, key)
+            } else {
+                key.key.copy(alloc)
+            }
+        }
         None => Ok(Bytes::new(alloc)),
     }
+}
+
+/// The bytes of a key behind its collection's id.
+fn spell_key(alloc: Global, key: &DocKey) -> Result<Bytes, NoMemory>
+    ensures { IfOk result (λ made. made ≡ id_bytes key.now.collection ++ key.now.key) }
+{
+    let mut id = [0u8; 5];
+    let used = write_id(key.collection, &mut id);
+    let (front, _) = id.split_at(used);
+    let mut bytes = Vec::new(alloc);
+    bytes.extend_from_slice(front)?;
+    bytes.extend_from_slice(key.key.as_slice())?;
+    Ok(Bytes::from_vec(bytes))
 }
