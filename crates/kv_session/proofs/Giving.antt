@@ -1,5 +1,5 @@
 -- What is given out of a frame.
-use Rattle.std.proofs.Common.{◌≡◌, ℕ, Bool, false, List, [], length, drop, sym, IsSome, Result, Ok, Err, refl, ap, subst}
+use Rattle.std.proofs.Common.{◌≡◌, ℕ, Bool, false, List, [], length, drop, sym, Result, Ok, Err, refl, ap, subst}
 use Rattle.std.proofs.Math.Seq.{drop-length}
 use Rattle.kv_frame.specs.declared.frame.Frame.{Frame}
 use Rattle.kv_frame.specs.declared.frame.Side.TheVariants.{Requests}
@@ -10,7 +10,7 @@ use Rattle.kv_request.specs.declared.request.Request.{Request}
 use Rattle.kv_request.specs.declared.request.Body.{Body}
 use Rattle.kv_request.specs.declared.request.Body.TheVariants as bodies
 use Rattle.kv_request.specs.declared.reply.Reply.{Reply}
-use Rattle.kv_request.specs.Tables.{request, IsReply, IsRequest, key_named}
+use Rattle.kv_request.specs.Tables.{request, IsReply, IsRequest, is_for_session}
 use Rattle.kv_session.specs.declared.answers.Made.{Made}
 use Rattle.kv_session.specs.declared.answers.Made.TheVariants as mades
 use Rattle.kv_session.specs.declared.session.Next.TheVariants as nexts
@@ -32,24 +32,24 @@ passed_read : (features : Features) (f : Frame) (read : Result Request Status) (
 passed_read features f (Ok other) made e = let same : other ≡ made = passed_same features other made other.body e in cc
 passed_read features f (Err refusing) made e = absurd (cc)
 
--- a request that is passed on names a document
-passed_names : (features : Features) (made other : Request) (body : Body) → made_of features made body ≡ answers.Passed other → IsSome (key_named body)
-passed_names features made other (bodies.Hello wanted) e = absurd (cc)
-passed_names features made other bodies.Noop e = absurd (cc)
-passed_names features made other bodies.Version e = absurd (cc)
-passed_names features made other bodies.Quit e = absurd (cc)
-passed_names features made other body e = refl
+-- a request that is passed on isn't the session's
+passed_other : (features : Features) (made other : Request) (body : Body) → made_of features made body ≡ answers.Passed other → is_for_session body ≡ false
+passed_other features made other (bodies.Hello wanted) e = absurd (cc)
+passed_other features made other bodies.Noop e = absurd (cc)
+passed_other features made other bodies.Version e = absurd (cc)
+passed_other features made other bodies.Quit e = absurd (cc)
+passed_other features made other body e = refl
 
-passed_from : (features : Features) (f : Frame) (read : Result Request Status) (made : Request) → made_from features f read ≡ answers.Passed made → IsSome (key_named made.body)
+passed_from : (features : Features) (f : Frame) (read : Result Request Status) (made : Request) → made_from features f read ≡ answers.Passed made → is_for_session made.body ≡ false
 passed_from features f (Ok other) made e =
-    subst (λ (r : Request). IsSome (key_named r.body)) (passed_same features other made other.body e) (passed_names features other made other.body e)
+    subst (λ (r : Request). is_for_session r.body ≡ false) (passed_same features other made other.body e) (passed_other features other made other.body e)
 passed_from features f (Err refusing) made e = absurd (cc)
 
-pub passed_document : (features : Features) (f : Frame) (d : Made) (made other : Request) → Makes (made_by features f) d → d ≡ mades.Passed made → nexts.Request made ≡ nexts.Request other → IsSome (key_named other.body)
-passed_document features f d made other makes is e =
+pub passed_not_own : (features : Features) (f : Frame) (d : Made) (made other : Request) → Makes (made_by features f) d → d ≡ mades.Passed made → nexts.Request made ≡ nexts.Request other → is_for_session other.body ≡ false
+passed_not_own features f d made other makes is e =
     let m : made_by features f ≡ answers.Passed made = subst (Makes (made_by features f)) is makes in
     let same : made ≡ other = cc in
-    subst (λ (r : Request). IsSome (key_named r.body)) same (passed_from features f (request features f) made m)
+    subst (λ (r : Request). is_for_session r.body ≡ false) same (passed_from features f (request features f) made m)
 
 pub passed_request : (held : List ℕ) (features : Features) (f : Frame) (used : ℕ) (d : Made) (made other : Request) → BeginsWith Requests held f used → Makes (made_by features f) d → d ≡ mades.Passed made
     → nexts.Request made ≡ nexts.Request other → IsRequest other

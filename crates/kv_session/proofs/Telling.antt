@@ -18,7 +18,7 @@ use Rattle.kv_request.specs.declared.request.Body.TheVariants as bodies
 use Rattle.kv_request.specs.declared.reply.Reply.{Reply}
 use Rattle.kv_request.specs.Opcodes.{command_of, is_of_streams}
 use Rattle.kv_request.specs.Tables.{request, checks, first_failing, request_of, checked, body_of, pairs_of, token_bytes, IsReply, IsSmallRequest}
-use Rattle.kv_request.proofs.Small.{request_is_small}
+use Rattle.kv_request.proofs.Small.{none_fails, not_of_streams, request_is_small}
 use Rattle.kv_session.specs.declared.answers.Made.TheVariants as mades
 use Rattle.kv_session.specs.declared.answers.Made.{Made}
 use Rattle.kv_session.specs.Answers.{is_granted, each_once, granted, telling, made_of, made_from, made_by}
@@ -27,33 +27,26 @@ use Rattle.kv_session.specs.Making.{Makes, Spells}
 
 -- ---- a Hello's list is no longer than its value
 
-none_fails : (failing : Option Status) (x y : Request) → option_map_or {T = Status} {U = Result Request Status} (λ s. Err s) failing (Ok x) ≡ Ok y → x ≡ y
-none_fails None x y e = cc
-none_fails (Some s) x y e = absurd (cc)
-
-not_of_streams : (b : Bool) (r : Result Request Status) (made : Request) → (if b then Err status.NOT_SUPPORTED else r) ≡ Ok made → r ≡ Ok made
-not_of_streams true r made e = absurd (cc)
-not_of_streams false r made e = e
-
 pairs_short : (bytes : List ℕ) → length (pairs_of bytes) + length (pairs_of bytes) ≤ length bytes
 pairs_short [] = omega arith
 pairs_short (last ∷ []) = omega arith
 pairs_short (high ∷ low ∷ others) = omega (arith, pairs_short others)
 
-wanted_of : (f : Frame) (command : Command) (wanted : List ℕ) → body_of f command ≡ bodies.Hello wanted → wanted ≡ pairs_of f.value
-wanted_of f commands.Hello wanted e = cc
-wanted_of f command wanted e = absurd (cc)
+wanted_of : (features : Features) (f : Frame) (command : Command) (wanted : List ℕ) → body_of features f command ≡ bodies.Hello wanted → wanted ≡ pairs_of f.value
+wanted_of features f commands.Hello wanted e = cc
+wanted_of features f command wanted e = absurd (cc)
 
-of_command : (f : Frame) (command : Option Command) (made : Request) (wanted : List ℕ) → option_map_or (checked f) command (Err status.UNKNOWN_COMMAND) ≡ Ok made → made.body ≡ bodies.Hello wanted → wanted ≡ pairs_of f.value
-of_command f None made wanted e is = absurd (cc)
-of_command f (Some command) made wanted e is =
-    let same : request_of f command ≡ made = none_fails (first_failing (checks f command)) (request_of f command) made e in
-    wanted_of f command wanted (ap (λ (r : Request). r.body) same ∙ is)
+of_command : (features : Features) (f : Frame) (command : Option Command) (made : Request) (wanted : List ℕ) → option_map_or (checked features f) command (Err status.UNKNOWN_COMMAND) ≡ Ok made → made.body ≡ bodies.Hello wanted → wanted ≡ pairs_of f.value
+of_command features f None made wanted e is = absurd (cc)
+of_command features f (Some command) made wanted e is =
+    let passed = none_fails (first_failing (checks features f command)) (request_of features f command) made e in
+    let same : request_of features f command ≡ made = passed.1 in
+    wanted_of features f command wanted (ap (λ (r : Request). r.body) same ∙ is)
 
 wanted_short : (features : Features) (f : Frame) (made : Request) (wanted : List ℕ) → Fits f → request features f ≡ Ok made → made.body ≡ bodies.Hello wanted → length wanted + length wanted ≤ BODY_LIMIT
 wanted_short features f made wanted fits e is =
     let same : wanted ≡ pairs_of f.value =
-    of_command f (command_of f.opcode) made wanted (not_of_streams (is_of_streams f.opcode) (option_map_or (checked f) (command_of f.opcode) (Err status.UNKNOWN_COMMAND)) made e) is in
+    of_command features f (command_of f.opcode) made wanted (not_of_streams (is_of_streams f.opcode) (option_map_or (checked features f) (command_of f.opcode) (Err status.UNKNOWN_COMMAND)) made e) is in
     omega (arith, ap (λ (l : List ℕ). length l) same, pairs_short f.value, fits.body)
 
 -- ---- what is granted is no longer than what is wanted

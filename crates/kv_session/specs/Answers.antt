@@ -11,12 +11,12 @@ use Rattle.kv_request.specs.declared.request.Body.{Body}
 use Rattle.kv_request.specs.declared.request.Body.TheVariants as bodies
 use Rattle.kv_request.specs.declared.reply.Reply.{Reply}
 use Rattle.kv_request.specs.Tables.{request, refused}
-use Rattle.kv_session.specs.declared.answers.TheConstants.{FEATURE_TOKEN, FEATURE_XATTR, FEATURE_XERROR, FEATURE_FLEX, FEATURE_DURABILITY, VERSION_TEXT}
+use Rattle.kv_session.specs.declared.answers.TheConstants.{FEATURE_TOKEN, FEATURE_XATTR, FEATURE_XERROR, FEATURE_FLEX, FEATURE_DURABILITY, FEATURE_COLLECTIONS, VERSION_TEXT}
 
 -- whether a feature is granted where it is asked for
 abbrev pub is_granted : ℕ → Bool
 is_granted code =
-    nat_eq code FEATURE_TOKEN || nat_eq code FEATURE_XATTR || nat_eq code FEATURE_XERROR || nat_eq code FEATURE_FLEX || nat_eq code FEATURE_DURABILITY
+    nat_eq code FEATURE_TOKEN || nat_eq code FEATURE_XATTR || nat_eq code FEATURE_XERROR || nat_eq code FEATURE_FLEX || nat_eq code FEATURE_DURABILITY || nat_eq code FEATURE_COLLECTIONS
 
 -- each number once, where it stands first
 abbrev pub each_once : List ℕ → List ℕ → List ℕ
@@ -29,7 +29,7 @@ granted wanted = each_once [] (filter is_granted wanted)
 
 -- what these features change
 abbrev pub features_of : List ℕ → Features
-features_of codes = record { token = list_any (nat_eq FEATURE_TOKEN) codes; json = false; collections = false }
+features_of codes = record { token = list_any (nat_eq FEATURE_TOKEN) codes; json = false; collections = list_any (nat_eq FEATURE_COLLECTIONS) codes }
 
 -- a reply with this value
 abbrev pub telling : Request → List ℕ → Reply
@@ -41,7 +41,7 @@ pub data Made : Type 0 where
   Passed : (made : Request) → Made
   Told : (reply : Reply) (features : Features) (quit : Bool) → Made
 
--- what a session makes of a request: what asks nothing of documents it answers, and all else it passes on
+-- what a session makes of a request: what asks nothing of a vbucket it answers, and all else it passes on
 abbrev pub made_of : Features → Request → Body → Made
 made_of features made (bodies.Hello wanted) = Told (telling made (flat_map (to_be_bytes w16) (granted wanted))) (features_of (granted wanted)) false
 made_of features made bodies.Noop = Told (telling made []) features false

@@ -28,6 +28,9 @@ pub const FEATURE_FLEX: u16 = 0x0010;
 /// Durable writes (synchronous replication), which are taken with and without it. It changes nothing.
 pub const FEATURE_DURABILITY: u16 = 0x0011;
 
+/// Collections: keys begin with the id of their collection.
+pub const FEATURE_COLLECTIONS: u16 = 0x0012;
+
 /// The version that is told.
 pub const VERSION_TEXT: &[u8; 5] = b"1.0.0";
 
@@ -100,7 +103,12 @@ fn is_granted(code: u16) -> bool
 {
     matches!(
         code,
-        FEATURE_TOKEN | FEATURE_XATTR | FEATURE_XERROR | FEATURE_FLEX | FEATURE_DURABILITY
+        FEATURE_TOKEN
+            | FEATURE_XATTR
+            | FEATURE_XERROR
+            | FEATURE_FLEX
+            | FEATURE_DURABILITY
+            | FEATURE_COLLECTIONS
     )
 }
 
@@ -135,7 +143,7 @@ fn take(codes: &[u16]) -> Features
     Features {
         token: codes.contains(&FEATURE_TOKEN),
         json: false,
-        collections: false,
+        collections: codes.contains(&FEATURE_COLLECTIONS),
     }
 }
 

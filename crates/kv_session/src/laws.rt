@@ -6,7 +6,8 @@ ghost use Rattle.kv_session.specs.Session.{Line, new_line};
 ghost use Rattle.kv_session.specs.Cutting.{Event, Runs, IsWhole, IsRead, IsDrained, AsksAll, bytes_taken, given};
 
 use crate::answers::{
-    FEATURE_DURABILITY, FEATURE_FLEX, FEATURE_TOKEN, FEATURE_XATTR, FEATURE_XERROR, VERSION_TEXT,
+    FEATURE_COLLECTIONS, FEATURE_DURABILITY, FEATURE_FLEX, FEATURE_TOKEN, FEATURE_XATTR,
+    FEATURE_XERROR, VERSION_TEXT,
 };
 
 /// However the bytes of a connection are cut into pieces, and whenever the session is asked, what it gave out and where
@@ -36,5 +37,6 @@ pub fn session_numbers()
     ensures xerror { FEATURE_XERROR ≡ 7 }
     ensures flex { FEATURE_FLEX ≡ 16 }
     ensures durability { FEATURE_DURABILITY ≡ 17 }
+    ensures collections { FEATURE_COLLECTIONS ≡ 18 }
     ensures version { VERSION_TEXT.now ≡ codes "1.0.0" }
 {}

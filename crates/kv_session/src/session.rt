@@ -1,7 +1,7 @@
-ghost use Rattle.std.specs.Prelude.{◌≡◌, ◌⊎◌, ◌↔◌, false, [], ◌++◌, ◌≤◌, ◌+◌, length, IfOk, IsSome, OnOk, OnErr};
+ghost use Rattle.std.specs.Prelude.{◌≡◌, ◌⊎◌, ◌↔◌, false, [], ◌++◌, ◌≤◌, ◌+◌, length, IfOk, OnOk, OnErr};
 ghost use Rattle.kv_frame.specs.declared.frame.Side.TheVariants.{Requests};
 ghost use Rattle.kv_frame.specs.Judging.{BeginsWith};
-ghost use Rattle.kv_request.specs.Tables.{IsReply, IsRequest, key_named};
+ghost use Rattle.kv_request.specs.Tables.{IsReply, IsRequest, is_for_session};
 ghost use Rattle.kv_session.specs.Filling.{room_for};
 ghost use Rattle.kv_session.specs.Session.{new_line, IsFull, Feeds, Gives};
 ghost use Rattle.kv_session.specs.Sending.{sent_bytes};
@@ -19,7 +19,7 @@ use std::marker::Model;
 pub enum Next {
     /// A request that is to be answered.
     Request(Request),
-    /// A reply of the session's own, to be sent: to a frame that is no request, or asks nothing of documents.
+    /// A reply of the session's own, to be sent: to a frame that is no request, or asks nothing of a vbucket.
     Refused(Reply),
     /// This many bytes of a frame are missing.
     More(usize),
@@ -88,7 +88,7 @@ impl Session {
     pub fn next_request(&mut self) -> Next
         ensures gives { Gives self.old self.new result }
         ensures request { (made : _) → result ≡ Next.Request made → IsRequest made }
-        ensures document { (made : _) → result ≡ Next.Request made → IsSome (key_named made.body) }
+        ensures passed { (made : _) → result ≡ Next.Request made → is_for_session made.body ≡ false }
         ensures reply { (reply : _) → result ≡ Next.Refused reply → IsReply reply }
     {
         if self.quit {
@@ -129,7 +129,7 @@ impl Session {
         requires begins { BeginsWith Requests self.old.held frame (length self.old.held) }
         ensures gives { Gives self.old self.new result }
         ensures request { (made : _) → result ≡ Next.Request made → IsRequest made }
-        ensures document { (made : _) → result ≡ Next.Request made → IsSome (key_named made.body) }
+        ensures passed { (made : _) → result ≡ Next.Request made → is_for_session made.body ≡ false }
         ensures reply { (reply : _) → result ≡ Next.Refused reply → IsReply reply }
     {
         let made = match make(self.alloc, &frame, &self.features) {

@@ -10,6 +10,8 @@ use std::test::Fail;
 
 const GET: &str = "80 00 0001 00 00 0000 00000001 deadbeef 0000000000000000 61";
 
+const GET_BEHIND_AN_8: &str = "80 00 0002 00 00 0000 00000002 00000001 0000000000000000 0861";
+
 const NOOP: &str = "80 0a 0000 00 00 0000 00000000 00000009 0000000000000000";
 
 const NOOP_DONE: &str = "81 0a 0000 00 00 0000 00000000 00000009 0000000000000000";
@@ -31,7 +33,8 @@ const QUITQ: &str = "80 17 0000 00 00 0000 00000000 00000005 0000000000000000";
 const HELLO: &str = "\
     80 1f 0003 00 00 0000 0000000b 00000000 0000000000000000 73646b 0003 0004 000b 0012";
 
-const TOKEN_GRANTED: &str = "81 1f 0000 00 00 0000 00000002 00000000 0000000000000000 0004";
+const TOKEN_AND_COLLECTIONS_GRANTED: &str =
+    "81 1f 0000 00 00 0000 00000004 00000000 0000000000000000 0004 0012";
 
 const HELLO_FOR_NOTHING: &str = "80 1f 0000 00 00 0000 00000000 00000000 0000000000000000";
 
@@ -110,6 +113,14 @@ fn set_done(alloc: Global) -> Reply
 fn request_of(next: Next) -> Option<Request> {
     match next {
         Next::Request(request) => Some(request),
+        _ => None,
+    }
+}
+
+// The collection of a Get's key, and how many bytes its name has.
+fn key_of(request: &Request) -> Option<(u32, usize)> {
+    match &request.body {
+        Body::Get { key } => Some((key.collection, key.key.len())),
         _ => None,
     }
 }
@@ -264,7 +275,7 @@ fn hello_decides_whether_tokens_are_sent(rt: HostRuntime) -> Result<(), Fail> {
     let set = set_done(alloc);
     for (hello, wanted, sent) in [
         (HELLO_FOR_NOTHING, NOTHING_GRANTED, SET_DONE),
-        (HELLO, TOKEN_GRANTED, SET_DONE_WITH_TOKEN),
+        (HELLO, TOKEN_AND_COLLECTIONS_GRANTED, SET_DONE_WITH_TOKEN),
         (ODD_HELLO, ODD_HELLO_REFUSED, SET_DONE_WITH_TOKEN),
         (HELLO_FOR_NOTHING, NOTHING_GRANTED, SET_DONE),
         (ODD_HELLO, ODD_HELLO_REFUSED, SET_DONE),
@@ -321,6 +332,24 @@ fn a_quiet_reply_is_sent_only_where_it_tells_something(rt: HostRuntime) -> Resul
         let sent = bytes_of(alloc, wanted)?;
         whole.extend_from_slice(&sent)?;
         assert_eq!(rt; out, whole);
+    }
+    Ok(())
+}
+
+#[test]
+fn hello_decides_whether_keys_begin_with_a_collection(rt: HostRuntime) -> Result<(), Fail> {
+    let alloc = rt.alloc();
+    let mut session = Session::new(alloc);
+    for (hello, collection, name) in [
+        (HELLO_FOR_NOTHING, 0, 2),
+        (HELLO, 8, 1),
+        (HELLO_TWICE, 0, 2),
+    ] {
+        feed(alloc, &mut session, hello)?;
+        own_answer(alloc, &mut session)?;
+        feed(alloc, &mut session, GET_BEHIND_AN_8)?;
+        let request = request_of(session.next_request()).ok_or("no request")?;
+        assert_eq!(rt; key_of(&request), Some((collection, name)));
     }
     Ok(())
 }

@@ -1,5 +1,5 @@
 use Rattle.std.proofs.Common.{length, ◌∙◌}
-use Rattle.kv_session.proofs.Giving.{passed_gives, passed_request, passed_document, told_gives, told_reply, emptied}
+use Rattle.kv_session.proofs.Giving.{passed_gives, passed_request, passed_not_own, told_gives, told_reply, emptied}
 use Rattle.kv_session.proofs.session.Session.give.Goals as goal
 
 pub returns-in-Passed-clause-gives : goal.returns-in-Passed-clause-gives
@@ -12,9 +12,9 @@ pub returns-in-Passed-clause-request : goal.returns-in-Passed-clause-request
 returns-in-Passed-clause-request c other e =
     passed_request c.args.self.now.held c.self.inside.features c.args.frame (length c.args.self.now.held) c.in-Ok.made c.in-Passed.request other c.requires.begins c.in-Ok.ensures.made c.in-Passed.is e
 
-pub returns-in-Passed-clause-document : goal.returns-in-Passed-clause-document
-returns-in-Passed-clause-document c other e =
-    passed_document c.self.inside.features c.args.frame c.in-Ok.made c.in-Passed.request other c.in-Ok.ensures.made c.in-Passed.is e
+pub returns-in-Passed-clause-passed : goal.returns-in-Passed-clause-passed
+returns-in-Passed-clause-passed c other e =
+    passed_not_own c.self.inside.features c.args.frame c.in-Ok.made c.in-Passed.request other c.in-Ok.ensures.made c.in-Passed.is e
 
 pub returns-clause-gives : goal.returns-clause-gives
 returns-clause-gives c =
