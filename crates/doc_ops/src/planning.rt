@@ -72,9 +72,14 @@ fn operate(
     ensures { Plans (operation (setting_of setting) request.now request.now.body (option_copied doc.entry)) result }
 {
     match &request.body {
-        Body::Hello { .. } | Body::Noop | Body::Version | Body::Quit => {
-            Err(Refused::Status(Status::UNKNOWN_COMMAND))
-        }
+        Body::Hello { .. }
+        | Body::Noop
+        | Body::Version
+        | Body::Quit
+        | Body::SetManifest { .. }
+        | Body::GetManifest
+        | Body::CollectionId { .. }
+        | Body::ScopeId { .. } => Err(Refused::Status(Status::UNKNOWN_COMMAND)),
         Body::Get { key } => get(alloc, request, key, doc),
         Body::Store {
             mode,

@@ -10,14 +10,14 @@ use Rattle.doc_model.specs.declared.key.DocKey.{DocKey}
 use Rattle.doc_model.specs.declared.document.Doc.{Doc}
 use Rattle.doc_model.specs.declared.status.Status.{Status}
 use Rattle.doc_model.specs.declared.status.TheConstants.Status as status
-use Rattle.kv_request.specs.declared.reading.TheConstants.{KEY_LIMIT, VALUE_LIMIT}
+use Rattle.kv_request.specs.declared.reading.TheConstants.{KEY_LIMIT, OTHER_KEY_LIMIT, VALUE_LIMIT}
 use Rattle.kv_request.specs.declared.request.Request.{Request}
 use Rattle.kv_request.specs.declared.request.Body.{Body}
 use Rattle.kv_request.specs.declared.request.Body.TheVariants as bodies
 use Rattle.kv_request.specs.declared.request.Mode.{Mode}
 use Rattle.kv_request.specs.declared.request.Mode.TheVariants as modes
 use Rattle.kv_request.specs.Opcodes.{command_of, tells_key}
-use Rattle.kv_request.specs.Tables.{IsSmallReply, IsSmallRequest, IsSmallKey, key_named, key_bytes, value_brought}
+use Rattle.kv_request.specs.Tables.{IsSmallReply, IsSmallRequest, IsSmallKey, key_named, name_length, value_brought}
 use Rattle.doc_step.specs.declared.TheConstants.{NO_INITIAL}
 use Rattle.doc_step.specs.declared.Change.{Change}
 use Rattle.doc_step.specs.Expiry.{Setting, there, is_expired}
@@ -33,7 +33,7 @@ IsSmallResult (Err refusing) = Unit {0}
 
 -- ---- replies
 
-told_short : (b : Bool) (key : DocKey) → length key.key ≤ KEY_LIMIT → length (key_bytes (if b then Some key else None)) ≤ KEY_LIMIT
+told_short : (b : Bool) (key : DocKey) → length key.key ≤ KEY_LIMIT → name_length (if b then Some key else None) ≤ KEY_LIMIT
 told_short true key h = h
 told_short false key h = omega arith
 
@@ -127,17 +127,29 @@ record IsSmallBody (body : Body) : Type 0 where
   value : length (value_brought body) ≤ VALUE_LIMIT
   initial : HasSmallInitial body
 
+limit_short : (b : Bool) → (if b then KEY_LIMIT else OTHER_KEY_LIMIT) ≤ KEY_LIMIT
+limit_short true = omega arith
+limit_short false = omega arith
+
+-- no name is longer than those of collection 0
+name_short : (key : DocKey) → IsSmallKey key → length key.key ≤ KEY_LIMIT
+name_short key h = omega (arith, h.within, limit_short (nat_eq key.collection 0))
+
 operation_small : (s : Setting) (request : Request) (body : Body) (doc : Option Doc) → s.draw < 2 ^ 64 → IsSmallRequest request → IsSmallBody body → IfSome doc IsSmallDoc → IsSmallResult (operation s request body doc)
 operation_small s request (bodies.Hello wanted) doc h r b d = tt
 operation_small s request bodies.Noop doc h r b d = tt
 operation_small s request bodies.Version doc h r b d = tt
 operation_small s request bodies.Quit doc h r b d = tt
-operation_small s request (bodies.Get key) doc h r b d = get_small request key doc r b.key.within d
+operation_small s request (bodies.SetManifest text) doc h r b d = tt
+operation_small s request bodies.GetManifest doc h r b d = tt
+operation_small s request (bodies.CollectionId path) doc h r b d = tt
+operation_small s request (bodies.ScopeId path) doc h r b d = tt
+operation_small s request (bodies.Get key) doc h r b d = get_small request key doc r (name_short key b.key) d
 operation_small s request (bodies.Store key mode flags expiry value) doc h r b d = store_small s request mode doc (stored_doc s flags expiry value doc) r (record { value = b.value; cas = h })
 operation_small s request (bodies.Delete key) doc h r b d = delete_small s request doc r h
 operation_small s request (bodies.Count key up delta initial expiry) doc h r b d = count_small s request up delta initial expiry doc r h b.initial
 operation_small s request (bodies.Join key front value) doc h r b d = join_small s request front value doc r h
-operation_small s request (bodies.Touch key expiry fetch) doc h r b d = touch_small s request key expiry fetch doc r b.key.within h d
+operation_small s request (bodies.Touch key expiry fetch) doc h r b d = touch_small s request key expiry fetch doc r (name_short key b.key) h d
 
 unless_refused : (refusing : Option Status) (result : Result Change Status) → IsSmallResult result → IsSmallResult (option_map_or {U = Result Change Status} (λ s. Err s) refusing result)
 unless_refused None result h = h
