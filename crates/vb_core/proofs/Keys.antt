@@ -1,19 +1,12 @@
 -- What a map has at one key, once another has changed.
 use Rattle.std.specs.Prelude.{◌≡◌, ◌≢◌, Bool, true, false, cond, Option, Some, refl}
-use Rattle.std.specs.declared.cmp.Ordering.{Ordering}
-use Rattle.std.specs.declared.cmp.Ordering.TheVariants.{Less, Equal, Greater}
-use Rattle.std.specs.Ordering.{is_eq, eq_by_cmp}
+use Rattle.std.specs.Ordering.{eq_by_cmp}
 use Rattle.std.specs.Cmp.{eq_by_cmp_equiv}
 use Rattle.std.specs.FinMap as map
 use Rattle.std.proofs.Common.{◌⊎◌, inl, inr, sym, ◌∙◌, ap}
 use Rattle.doc_model.specs.declared.key.DocKey.{DocKey}
 use Rattle.doc_model.specs.Keys.{key_cmp}
-use Rattle.doc_model.proofs.Entries.{exact_keys, keys_total}
-
-is_equal : (o : Ordering) → is_eq o ≡ true → o ≡ Equal
-is_equal Less e = absurd (cc)
-is_equal Equal e = refl
-is_equal Greater e = absurd (cc)
+use Rattle.doc_model.proofs.Entries.{same_key, keys_total}
 
 at_false : {X : Type 0} (b : Bool) (x y : X) → (b ≡ true → ⊥) → cond b x y ≡ y
 at_false true x y no_way = absurd (no_way refl)
@@ -27,7 +20,7 @@ get_same m key x = map.get-insert keys_total m key x key ∙ ap (λ b. cond b (S
 pub get_other : {X : Type 0} (m : map.FinMap key_cmp X) (key other : DocKey) (x : X) → other ≢ key → map.get (map.insert m key x) other ≡ map.get m other
 get_other m key other x differs =
     map.get-insert keys_total m key x other
-    ∙ at_false (eq_by_cmp key_cmp other key) (Some x) (map.get m other) (λ e. differs (exact_keys other key (is_equal (key_cmp other key) e)))
+    ∙ at_false (eq_by_cmp key_cmp other key) (Some x) (map.get m other) (λ e. differs (same_key other key e))
 
 -- any key has what was given, or what it had
 one_of : {X : Type 0} (b : Bool) (x y : X) (o : Option X) → cond b (Some x) o ≡ Some y → (x ≡ y) ⊎ (o ≡ Some y)

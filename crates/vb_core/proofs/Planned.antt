@@ -1,5 +1,5 @@
 -- What a change that is planned comes to: the entries and the reply of the step.
-use Rattle.std.specs.Prelude.{◌≡◌, ℕ, ◌+◌, ◌<◌, ◌*◌, ◌^◌, max, nat_eq, nat_lt, Bool, true, false, List, [], length, Option, Some, None, Result, Ok, Err, if◌then◌else◌, refl}
+use Rattle.std.specs.Prelude.{◌≡◌, ℕ, ◌+◌, ◌<◌, ◌*◌, ◌^◌, max, nat_eq, nat_lt, Bool, true, false, List, [], length, Option, Some, None, unwrap_or, Result, Ok, Err, if◌then◌else◌, refl}
 use Rattle.std.specs.Option.{option_map_or}
 use Rattle.std.specs.FinMap as map
 use Rattle.std.specs.Int.{w64, to_be_bytes}
@@ -18,7 +18,7 @@ use Rattle.kv_request.specs.declared.request.Body.{Body}
 use Rattle.kv_request.specs.declared.request.Body.TheVariants as bodies
 use Rattle.kv_request.specs.declared.request.Mode.{Mode}
 use Rattle.kv_request.specs.declared.request.Mode.TheVariants as modes
-use Rattle.kv_request.specs.Tables.{document_key}
+use Rattle.kv_request.specs.Tables.{no_key, key_named, document_key}
 use Rattle.doc_step.specs.declared.TheConstants.{NO_INITIAL}
 use Rattle.doc_step.specs.declared.Effect.{Effect}
 use Rattle.doc_step.specs.declared.Effect.TheVariants as effects
@@ -26,6 +26,7 @@ use Rattle.doc_step.specs.declared.Change.{Change}
 use Rattle.doc_step.specs.Expiry.{Setting, there}
 use Rattle.doc_step.specs.Counter.{number_of, moved}
 use Rattle.doc_step.specs.Step.{cas_refusal, storing, with_value, get_step, stored_doc, store_step, delete_step, new_counter, count_step, joined_value, join_step, touch_step, operation, document_step}
+use Rattle.manifest_rules.specs.Catalog.{max_ttl_of}
 use Rattle.vb_core.specs.Log.{Content, with_entries, doc_of}
 use Rattle.vb_core.specs.Step.{drawn, entries_of, changes, with_token, concluded, setting_at, document_request}
 use Rattle.vb_core.specs.Changing.{documents_with}
@@ -85,6 +86,10 @@ operation_stores s request (bodies.Hello wanted) doc = tt
 operation_stores s request bodies.Noop doc = tt
 operation_stores s request bodies.Version doc = tt
 operation_stores s request bodies.Quit doc = tt
+operation_stores s request (bodies.SetManifest text) doc = tt
+operation_stores s request bodies.GetManifest doc = tt
+operation_stores s request (bodies.CollectionId path) doc = tt
+operation_stores s request (bodies.ScopeId path) doc = tt
 operation_stores s request (bodies.Get key) doc = get_stores s.draw request key doc
 operation_stores s request (bodies.Store key mode flags expiry value) doc = store_stores s request mode doc (stored_doc s flags expiry value doc) refl
 operation_stores s request (bodies.Delete key) doc = delete_stores s request doc
@@ -99,18 +104,28 @@ step_stores s request doc change e =
 
 -- ---- a change that is planned
 
+-- the key that a request names is the document's
+pub its_key : (body : Body) (key : DocKey) → key_named body ≡ Some key → document_key body ≡ key
+its_key body key e = ap (λ o. unwrap_or o no_key) e
+
+-- documents with an effect at the key that a request names
+pub made_at : (after before : map.FinMap key_cmp What) (effect : Effect) (cas position : ℕ) (body : Body) (key : DocKey) → key_named body ≡ Some key → after ≡ documents_with before key effect cas position → after ≡ documents_with before (document_key body) effect cas position
+made_at after before effect cas position body key e is = is ∙ ap (λ k. documents_with before k effect cas position) (sym (its_key body key e))
+
 -- a change that a request makes to the document of its key, with the CAS and the position that it gets
-pub record IsPlanned (content : Content) (seen now : ℕ) (request : Request) (doc : Option Doc) (cas position : ℕ) (change : Change) : Type 0 where
+pub record IsPlanned (content : Content) (seen now : ℕ) (request : Request) (doc : Option Doc) (max_ttl cas position : ℕ) (change : Change) : Type 0 where
+  pub max_ttl_is : max_ttl ≡ max_ttl_of content.manifest.scopes (document_key request.body).collection
   pub cas_is : cas ≡ max (content.greatest_cas + 1) (seen * 2 ^ 20)
   pub position_is : position ≡ content.position + 1
   pub found : doc ≡ doc_of (map.get content.documents (document_key request.body))
-  pub step : document_step (record { max_ttl = 0; now = now; draw = cas }) request doc ≡ Ok change
+  pub step : document_step (record { max_ttl = max_ttl; now = now; draw = cas }) request doc ≡ Ok change
 
 -- what the step appends and answers
-pub planned_is : {content : Content} {seen now : ℕ} {request : Request} {doc : Option Doc} {cas position : ℕ} {change : Change} → IsPlanned content seen now request doc cas position change → document_request content seen now request ≡ (entries_of (document_key request.body) change.effect cas, with_token request.body change.effect position change.reply)
-planned_is {content} {seen} {now} {request} {doc} {cas} {position} {change} h =
-    ap (λ d. concluded content request (drawn content seen) (document_step (setting_at content seen now) request d)) (sym h.found)
-    ∙ ap (λ n. concluded content request n (document_step (record { max_ttl = 0; now = now; draw = n }) request doc)) (sym h.cas_is)
+pub planned_is : {content : Content} {seen now : ℕ} {request : Request} {doc : Option Doc} {max_ttl cas position : ℕ} {change : Change} → IsPlanned content seen now request doc max_ttl cas position change → document_request content seen now request ≡ (entries_of (document_key request.body) change.effect cas, with_token request.body change.effect position change.reply)
+planned_is {content} {seen} {now} {request} {doc} {max_ttl} {cas} {position} {change} h =
+    ap (λ d. concluded content request (drawn content seen) (document_step (setting_at content seen now (document_key request.body).collection) request d)) (sym h.found)
+    ∙ ap (λ t. concluded content request (drawn content seen) (document_step (record { max_ttl = t; now = now; draw = drawn content seen }) request doc)) (sym h.max_ttl_is)
+    ∙ ap (λ n. concluded content request n (document_step (record { max_ttl = max_ttl; now = now; draw = n }) request doc)) (sym h.cas_is)
     ∙ ap (λ r. concluded content request cas r) h.step
     ∙ ap (λ n. (entries_of (document_key request.body) change.effect cas, with_token request.body change.effect n change.reply)) (sym h.position_is)
 
@@ -120,6 +135,7 @@ content_with content key effect cas position = record {
   documents = documents_with content.documents key effect cas position;
   greatest_cas = if changes effect then cas else content.greatest_cas;
   position = if changes effect then position else content.position;
+  manifest = content.manifest;
 }
 
 greater : (greatest cas other : ℕ) → greatest < cas → other ≡ cas → max greatest other ≡ cas
@@ -128,9 +144,9 @@ greater greatest cas other h e = omega arith
 effect_is : (content : Content) (key : DocKey) (effect : Effect) (cas : ℕ) → content.greatest_cas < cas → StoresDraw cas effect → with_entries content (entries_of key effect cas) ≡ content_with content key effect cas (content.position + 1)
 effect_is content key effects.Nothing cas h e = refl
 effect_is content key (effects.Put doc) cas h e =
-    ap (λ (n : ℕ). record { documents = map.insert content.documents key (whats.Put (record doc { seqno = content.position + 1 })); greatest_cas = n; position = content.position + 1 }) (greater content.greatest_cas cas doc.cas h e)
+    ap (λ (n : ℕ). record { documents = map.insert content.documents key (whats.Put (record doc { seqno = content.position + 1 })); greatest_cas = n; position = content.position + 1; manifest = content.manifest }) (greater content.greatest_cas cas doc.cas h e)
 effect_is content key effects.Remove cas h e =
-    ap (λ (n : ℕ). record { documents = map.insert content.documents key (whats.Remove cas); greatest_cas = n; position = content.position + 1 }) (greater content.greatest_cas cas cas h refl)
+    ap (λ (n : ℕ). record { documents = map.insert content.documents key (whats.Remove cas); greatest_cas = n; position = content.position + 1; manifest = content.manifest }) (greater content.greatest_cas cas cas h refl)
 
 -- what a change that is planned makes of these documents
 pub record IsMade (content : Content) (key : DocKey) (change : Change) (cas position : ℕ) (documents : map.FinMap key_cmp What) (changed : Bool) : Type 0 where
@@ -138,13 +154,13 @@ pub record IsMade (content : Content) (key : DocKey) (change : Change) (cas posi
   pub changed_is : changed ≡ changes change.effect
 
 -- what the history comes to, whether there was a change or not
-pub made_is : {content : Content} {seen now : ℕ} {request : Request} {doc : Option Doc} {cas position : ℕ} {change : Change} {documents : map.FinMap key_cmp What} {changed : Bool} → IsPlanned content seen now request doc cas position change → IsMade content (document_key request.body) change cas position documents changed
-    → with_entries content (document_request content seen now request).0 ≡ record { documents = documents; greatest_cas = if changed then cas else content.greatest_cas; position = if changed then position else content.position }
-made_is {content} {seen} {now} {request} {doc} {cas} {position} {change} {documents} {changed} h m =
+pub made_is : {content : Content} {seen now : ℕ} {request : Request} {doc : Option Doc} {max_ttl cas position : ℕ} {change : Change} {documents : map.FinMap key_cmp What} {changed : Bool} → IsPlanned content seen now request doc max_ttl cas position change → IsMade content (document_key request.body) change cas position documents changed
+    → with_entries content (document_request content seen now request).0 ≡ record { documents = documents; greatest_cas = if changed then cas else content.greatest_cas; position = if changed then position else content.position; manifest = content.manifest }
+made_is {content} {seen} {now} {request} {doc} {max_ttl} {cas} {position} {change} {documents} {changed} h m =
     let key = document_key request.body in
     let above : content.greatest_cas < cas = let e = h.cas_is in omega arith in
     ap (λ r. with_entries content r.0) (planned_is h)
-    ∙ effect_is content key change.effect cas above (step_stores (record { max_ttl = 0; now = now; draw = cas }) request doc change h.step)
+    ∙ effect_is content key change.effect cas above (step_stores (record { max_ttl = max_ttl; now = now; draw = cas }) request doc change h.step)
     ∙ ap (content_with content key change.effect cas) (sym h.position_is)
-    ∙ ap (λ (b : Bool). record { documents = documents_with content.documents key change.effect cas position; greatest_cas = if b then cas else content.greatest_cas; position = if b then position else content.position }) (sym m.changed_is)
-    ∙ ap (λ (d : map.FinMap key_cmp What). record { documents = d; greatest_cas = if changed then cas else content.greatest_cas; position = if changed then position else content.position }) (sym m.documents_are)
+    ∙ ap (λ (b : Bool). record { documents = documents_with content.documents key change.effect cas position; greatest_cas = if b then cas else content.greatest_cas; position = if b then position else content.position; manifest = content.manifest }) (sym m.changed_is)
+    ∙ ap (λ (d : map.FinMap key_cmp What). record { documents = d; greatest_cas = if changed then cas else content.greatest_cas; position = if changed then position else content.position; manifest = content.manifest }) (sym m.documents_are)

@@ -1,13 +1,15 @@
 -- Documents that are stored can be carried by a reply, and the replies made here have frames.
-use Rattle.std.specs.Prelude.{◌≡◌, ℕ, ◌^◌, ◌<◌, Bool, true, false, ◌&&◌, Option, Some, None, Ok, if◌then◌else◌, refl}
+use Rattle.std.specs.Prelude.{◌≡◌, ℕ, ◌^◌, ◌<◌, nat_eq, Bool, true, false, cond, not, ◌&&◌, List, Option, Some, None, Ok, if◌then◌else◌, refl}
+use Rattle.std.specs.List.{list_any}
 use Rattle.std.specs.Option.{IfSome}
 use Rattle.std.specs.FinMap as map
-use Rattle.std.proofs.Common.{inl, inr, sym, ap, subst}
+use Rattle.std.proofs.Common.{inl, inr, sym, ◌∙◌, ap, subst}
 use Rattle.doc_model.specs.declared.key.DocKey.{DocKey}
 use Rattle.doc_model.specs.declared.document.Doc.{Doc}
 use Rattle.doc_model.specs.declared.document.What.{What}
 use Rattle.doc_model.specs.declared.document.What.TheVariants as whats
 use Rattle.doc_model.specs.Keys.{key_cmp}
+use Rattle.doc_model.proofs.Drops.{get_kept}
 use Rattle.kv_request.specs.declared.request.Request.{Request}
 use Rattle.kv_request.specs.declared.request.Body.{Body}
 use Rattle.kv_request.specs.declared.reply.Reply.{Reply}
@@ -20,7 +22,7 @@ use Rattle.doc_step.specs.Step.{document_step, tells_token}
 use Rattle.doc_step.specs.Laws.{IsSmallDoc, IsSmallEffect, IsSmallChange, HasSmallInitial}
 use Rattle.doc_step.proofs.Small.{step_small}
 use Rattle.vb_core.specs.declared.vb.TheConstants.{TERM}
-use Rattle.vb_core.specs.Log.{doc_of}
+use Rattle.vb_core.specs.Log.{doc_of, without}
 use Rattle.vb_core.specs.Step.{changes, with_token, AreSmall}
 use Rattle.vb_core.specs.Changing.{documents_with}
 use Rattle.vb_core.proofs.Keys.{get_either}
@@ -72,6 +74,15 @@ deleted_small documents key cas all other x e =
       | inr before ↦ all other x before
     ]
 
+still_there : (b : Bool) (o : Option What) (what : What) → cond b o None ≡ Some what → o ≡ Some what
+still_there true o what e = e
+still_there false o what e = absurd (cc)
+
+-- small documents without those of dropped collections
+pub without_small : (documents : map.FinMap key_cmp What) (dropped : List ℕ) → AreSmall documents → AreSmall (without documents dropped)
+without_small documents dropped all key doc e =
+    all key doc (still_there (not (list_any (nat_eq key.collection) dropped)) (map.get documents key) (whats.Put doc) (sym (get_kept documents (λ k. not (list_any (nat_eq k.collection) dropped)) key) ∙ e))
+
 -- small documents with a small effect are small
 with_small : (documents : map.FinMap key_cmp What) (key : DocKey) (effect : Effect) (cas position : ℕ) → AreSmall documents → IsSmallEffect effect → AreSmall (documents_with documents key effect cas position)
 with_small documents key effects.Nothing cas position all h = all
@@ -81,22 +92,22 @@ with_small documents key effects.Remove cas position all h = deleted_small docum
 -- ---- a change of small documents
 
 -- a change that a request makes to small documents
-pub record IsStep (documents : map.FinMap key_cmp What) (now : ℕ) (request : Request) (doc : Option Doc) (cas : ℕ) (change : Change) : Type 0 where
+pub record IsStep (documents : map.FinMap key_cmp What) (now : ℕ) (request : Request) (doc : Option Doc) (max_ttl cas : ℕ) (change : Change) : Type 0 where
   pub all : AreSmall documents
   pub is : IsRequest request
   pub initial : HasSmallInitial request.body
   pub bound : cas < 2 ^ 64
   pub found : doc ≡ doc_of (map.get documents (document_key request.body))
-  pub step : document_step (record { max_ttl = 0; now = now; draw = cas }) request doc ≡ Ok change
+  pub step : document_step (record { max_ttl = max_ttl; now = now; draw = cas }) request doc ≡ Ok change
 
 -- such a change is small
-pub change_small : {documents : map.FinMap key_cmp What} {now : ℕ} {request : Request} {doc : Option Doc} {cas : ℕ} {change : Change} → IsStep documents now request doc cas change → IsSmallChange change
-change_small {documents} {now} {request} {doc} {cas} {change} h =
+pub change_small : {documents : map.FinMap key_cmp What} {now : ℕ} {request : Request} {doc : Option Doc} {max_ttl cas : ℕ} {change : Change} → IsStep documents now request doc max_ttl cas change → IsSmallChange change
+change_small {documents} {now} {request} {doc} {max_ttl} {cas} {change} h =
     let P : Option Doc → Type 0 = λ d. IfSome d IsSmallDoc in
-    step_small (record { max_ttl = 0; now = now; draw = cas }) request doc change h.bound (request_is_small request h.is) h.initial (subst P (sym h.found) (its_small documents (document_key request.body) h.all)) h.step
+    step_small (record { max_ttl = max_ttl; now = now; draw = cas }) request doc change h.bound (request_is_small request h.is) h.initial (subst P (sym h.found) (its_small documents (document_key request.body) h.all)) h.step
 
 -- and the documents afterwards are
-pub changed_small : {documents : map.FinMap key_cmp What} {now : ℕ} {request : Request} {doc : Option Doc} {cas : ℕ} {change : Change} (after : map.FinMap key_cmp What) (position : ℕ) → IsStep documents now request doc cas change → after ≡ documents_with documents (document_key request.body) change.effect cas position → AreSmall after
-changed_small {documents} {now} {request} {doc} {cas} {change} after position h e =
+pub changed_small : {documents : map.FinMap key_cmp What} {now : ℕ} {request : Request} {doc : Option Doc} {max_ttl cas : ℕ} {change : Change} (after : map.FinMap key_cmp What) (position : ℕ) → IsStep documents now request doc max_ttl cas change → after ≡ documents_with documents (document_key request.body) change.effect cas position → AreSmall after
+changed_small {documents} {now} {request} {doc} {max_ttl} {cas} {change} after position h e =
     let P : map.FinMap key_cmp What → Type 0 = λ d. AreSmall d in
     subst P (sym e) (with_small documents (document_key request.body) change.effect cas position h.all (change_small h).effect)

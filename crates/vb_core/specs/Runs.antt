@@ -1,5 +1,5 @@
 -- Whole runs of requests, for laws in the words of those who use documents.
-use Rattle.std.specs.Prelude.{◌≡◌, ◌≢◌, ℕ, false, List, [], ◌∷◌, None, Some}
+use Rattle.std.specs.Prelude.{◌≡◌, ◌≢◌, ℕ, is_some, true, false, List, [], ◌∷◌, None, Some}
 use Rattle.doc_model.specs.declared.key.DocKey.{DocKey}
 use Rattle.doc_model.specs.declared.status.TheConstants.Status as status
 use Rattle.kv_request.specs.declared.request.Request.{Request}
@@ -8,8 +8,10 @@ use Rattle.kv_request.specs.declared.request.Body.TheVariants as bodies
 use Rattle.kv_request.specs.declared.request.Mode.TheVariants as modes
 use Rattle.kv_request.specs.declared.reply.Reply.{Reply}
 use Rattle.vb_core.specs.declared.vb.TheConstants.{VBUCKET}
-use Rattle.doc_step.specs.Expiry.{seconds, asked, is_expired}
-use Rattle.vb_core.specs.Step.{Copy, moment_of, after}
+use Rattle.doc_step.specs.Expiry.{expiry_of, is_expired}
+use Rattle.manifest_rules.specs.Catalog.{Catalog, collection_at}
+use Rattle.manifest_rules.specs.Form.{manifest_in}
+use Rattle.vb_core.specs.Step.{Copy, has_collection, setting_at, moment_of, after}
 
 -- a request and the moment at which it comes
 pub record Event : Type 0 where
@@ -42,16 +44,28 @@ pub record IsDelete (request : Request) (key : DocKey) : Type 0 where
   pub body : request.body ≡ bodies.Delete key
   pub unconditional : IsUnconditional request
 
--- A document stored at one moment with this expiry of a request is there at another.
-abbrev pub Outlasts : ℕ → ℕ → ℕ → Type 0
-Outlasts stored expiry now = is_expired (asked (seconds (moment_of stored)) expiry) (moment_of now) ≡ false
+-- A document of this key, stored in this vbucket at one moment with this expiry of a request, is there at another.
+abbrev pub Outlasts : Copy → DocKey → ℕ → ℕ → ℕ → Type 0
+Outlasts copy key stored expiry now = is_expired (expiry_of (setting_at copy.content 0 (moment_of stored) key.collection) expiry) (moment_of now) ≡ false
 
--- A request that changes the document of another key, or none.
+-- the collection of the key is there
+abbrev pub IsKnown : Copy → DocKey → Type 0
+IsKnown copy key = has_collection copy.content key.collection ≡ true
+
+-- a manifest that has the key's collection, if it is one
+abbrev pub KeepsCollection : DocKey → List ℕ → Type 0
+KeepsCollection key text = (new : Catalog) → manifest_in text ≡ Some new → is_some (collection_at new.scopes key.collection) ≡ true
+
+-- A request that changes the document of another key, or none, and doesn't drop the key's collection.
 abbrev pub LeavesBody : DocKey → Body → Type 0
 LeavesBody key (bodies.Hello wanted) = Unit {0}
 LeavesBody key bodies.Noop = Unit {0}
 LeavesBody key bodies.Version = Unit {0}
 LeavesBody key bodies.Quit = Unit {0}
+LeavesBody key (bodies.SetManifest text) = KeepsCollection key text
+LeavesBody key bodies.GetManifest = Unit {0}
+LeavesBody key (bodies.CollectionId path) = Unit {0}
+LeavesBody key (bodies.ScopeId path) = Unit {0}
 LeavesBody key (bodies.Get other) = Unit {0}
 LeavesBody key (bodies.Store other mode flags expiry value) = other ≢ key
 LeavesBody key (bodies.Delete other) = other ≢ key

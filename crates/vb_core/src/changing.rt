@@ -1,13 +1,14 @@
 //! What a change does to the documents, and what it draws.
 
-ghost use Rattle.std.specs.Prelude.{◌≡◌, ◌+◌, ◌*◌, ◌^◌, ◌≤◌, max, IfOk, OnOk, OnErr, IsSome};
+ghost use Rattle.std.specs.Prelude.{◌≡◌, ◌+◌, ◌*◌, ◌^◌, ◌≤◌, max, is_some, IfOk, OnOk, OnErr};
 ghost use Rattle.std.specs.Option.{option_copied};
 ghost use Rattle.std.specs.FinMap as map;
-ghost use Rattle.kv_request.specs.Tables.{key_named, document_key};
+ghost use Rattle.kv_request.specs.Tables.{key_named};
 ghost use Rattle.doc_step.specs.Step.{tells_token};
 ghost use Rattle.doc_step.specs.Laws.{HasSmallInitial};
 ghost use Rattle.vb_core.specs.Log.{doc_of};
-ghost use Rattle.vb_core.specs.Step.{changes, with_token, early_refusal};
+ghost use Rattle.manifest_rules.specs.Catalog.{collection_at};
+ghost use Rattle.vb_core.specs.Step.{changes, with_token, refusal_where};
 ghost use Rattle.vb_core.specs.Changing.{documents_with};
 
 use crate::vb::{LAST_MOMENT, TERM, VBUCKET};
@@ -15,17 +16,25 @@ use doc_model::{Doc, DocKey, KeyMap, Status, What};
 use doc_step::{Change, Effect};
 use kv_edge::{Copied, NoMemory};
 use kv_request::{Body, Reply, Request};
+use manifest_rules::{Manifest, has};
 use std::alloc::Global;
 
-/// Why a request is refused whatever its document is.
-pub(crate) fn refused_early(request: &Request) -> Option<Status>
-    ensures { result ≡ early_refusal request.now }
+/// Why a request on a document of this collection is refused whatever the document is.
+pub(crate) fn refused_early(
+    manifest: &Manifest,
+    request: &Request,
+    collection: u32,
+) -> Option<Status>
+    ensures { result ≡ refusal_where (is_some (collection_at manifest.now.scopes collection)) request.now }
 {
     if request.durability.is_some() {
         return Some(Status::NOT_SUPPORTED);
     }
     if request.vbucket != VBUCKET {
         return Some(Status::NOT_MY_VBUCKET);
+    }
+    if !has(manifest, collection) {
+        return Some(Status::UNKNOWN_COLLECTION);
     }
     None
 }
@@ -51,23 +60,25 @@ pub(crate) fn next_position(position: u64) -> Result<u64, NoMemory>
     }
 }
 
-/// The key that a request names. An initial value that comes with it is read, so that its range is known.
-pub(crate) fn name_of(body: &Body) -> &DocKey
-    requires { IsSome (key_named body.now) }
-    ensures key { result.now ≡ document_key body.now }
+/// The key that a request names, where it is a document's. An initial value that comes with it is read, so that its
+/// range is known.
+pub(crate) fn name_of(body: &Body) -> Option<&DocKey>
+    ensures key { option_copied result ≡ key_named body.now }
     ensures initial { HasSmallInitial body.now }
 {
     match body {
-        Body::Hello { wanted: _ } | Body::Noop | Body::Version | Body::Quit => unreachable!(),
-        Body::Get { key } => key,
-        Body::Store { key, .. } => key,
-        Body::Delete { key } => key,
+        Body::Hello { .. } | Body::Noop | Body::Version | Body::Quit => None,
+        Body::SetManifest { .. } | Body::GetManifest => None,
+        Body::CollectionId { .. } | Body::ScopeId { .. } => None,
+        Body::Get { key } => Some(key),
+        Body::Store { key, .. } => Some(key),
+        Body::Delete { key } => Some(key),
         Body::Count { key, initial, .. } => {
             let _initial = *initial;
-            key
+            Some(key)
         }
-        Body::Join { key, .. } => key,
-        Body::Touch { key, .. } => key,
+        Body::Join { key, .. } => Some(key),
+        Body::Touch { key, .. } => Some(key),
     }
 }
 
@@ -100,14 +111,14 @@ pub(crate) fn make(
     alloc: Global,
     documents: &mut KeyMap<What>,
     body: &Body,
+    key: &DocKey,
     change: Change,
     cas: u64,
     position: u64,
 ) -> Result<Made, NoMemory>
-    requires { IsSome (key_named body.now) }
     ensures reply { IfOk result (λ made. made.reply ≡ with_token body.now change.effect position change.reply) }
     ensures changed { IfOk result (λ made. made.changed ≡ changes change.effect) }
-    ensures documents { OnOk result (documents.new ≡ documents_with documents.old (document_key body.now) change.effect cas position) }
+    ensures documents { OnOk result (documents.new ≡ documents_with documents.old key.now change.effect cas position) }
     ensures err { OnErr result (documents.new ≡ documents.old) }
 {
     let Change { effect, mut reply } = change;
@@ -124,7 +135,7 @@ pub(crate) fn make(
         }
         Effect::Remove => What::Remove(cas),
     };
-    documents.insert(name_of(body).copy(alloc)?, what)?;
+    documents.insert(key.copy(alloc)?, what)?;
     if tells_token(body) {
         reply.token = Some((TERM, position));
     }

@@ -1,32 +1,36 @@
 -- What an operation made: what the history comes to, the reply, and that both are small.
 use Rattle.std.specs.Prelude.{◌≡◌, ℕ, Bool, true, false}
 use Rattle.std.specs.Option.{option_copied}
+use Rattle.std.specs.FinMap as map
 use Rattle.std.proofs.Common.{arith, ap, sym, ◌∙◌}
+use Rattle.doc_model.specs.declared.key.DocKey.{DocKey}
 use Rattle.kv_request.specs.declared.request.Request.{Request}
 use Rattle.kv_request.specs.Tables.{document_key}
-use Rattle.vb_core.specs.Log.{Content, with_entries}
+use Rattle.manifest_rules.specs.Catalog.{max_ttl_of}
+use Rattle.vb_core.specs.Log.{Content, with_entries, doc_of}
 use Rattle.vb_core.specs.Step.{Copy, document_request}
-use Rattle.vb_core.proofs.Planned.{IsPlanned, IsMade, planned_is, made_is}
+use Rattle.vb_core.proofs.Planned.{IsPlanned, IsMade, its_key, made_at, planned_is, made_is}
 use Rattle.vb_core.proofs.Small.{IsStep, change_small, changed_small, change_fits}
 use Rattle.vb_core.proofs.vb.Vb.operate.Goals as goal
 use Rattle.vb_core.proofs.vb.Vb.operate.Goals.{then-made, else-made}
 
 before : goal.Joined-made → Content
-before c = record { documents = c.self.inside.documents; greatest_cas = c.self.inside.greatest_cas; position = c.self.inside.position }
+before c = record { documents = c.self.inside.documents; greatest_cas = c.self.inside.greatest_cas; position = c.self.inside.position; manifest = c.self.inside.manifest }
 
-planned : (c : goal.Joined-made) → IsPlanned (before c) c.args.seen c.args.now c.args.request.now (option_copied c.document_at-doc.result) c.in_ok-cas.cas c.in_ok-position.position c.in-Ok.change
+planned : (c : goal.Joined-made) → IsPlanned (before c) c.args.seen c.args.now c.args.request.now (option_copied c.document_at-doc.result) c.max_ttl-lifetime.result c.in_ok-cas.cas c.in_ok-position.position c.in-Ok.change
 unfolding before
 planned c = record {
+  max_ttl_is = c.max_ttl-lifetime.ensures ∙ ap (λ (k : DocKey). max_ttl_of c.self.inside.manifest.scopes k.collection) (sym (its_key c.args.request.now.body c.args.key.now c.requires.key));
   cas_is = c.in_ok-cas.ensures;
   position_is = c.in_ok-position.ensures;
-  found = rw (← c.name_of.ensures.key) c.document_at-doc.ensures;
+  found = c.document_at-doc.ensures ∙ ap (λ k. doc_of (map.get c.self.inside.documents k)) (sym (its_key c.args.request.now.body c.args.key.now c.requires.key));
   step = c.in-Ok.ensures;
 }
 
 -- what is made, where this tells whether there was a change
 made : (c : goal.Joined-made) (changed : Bool) → c.in_ok-made-in-Ok.made.changed ≡ changed → IsMade (before c) (document_key c.args.request.now.body) c.in-Ok.change c.in_ok-cas.cas c.in_ok-position.position c.make.new.documents changed
 unfolding before
-made c changed e = record { documents_are = c.in_ok-made-in-Ok.ensures.documents; changed_is = sym e ∙ c.in_ok-made-in-Ok.ensures.changed }
+made c changed e = record { documents_are = made_at c.make.new.documents c.self.inside.documents c.in-Ok.change.effect c.in_ok-cas.cas c.in_ok-position.position c.args.request.now.body c.args.key.now c.requires.key c.in_ok-made-in-Ok.ensures.documents; changed_is = sym e ∙ c.in_ok-made-in-Ok.ensures.changed }
 
 -- what a vbucket comes to by a request
 abbrev operated : ℕ → ℕ → Request → Copy → Copy
@@ -53,24 +57,24 @@ returns-after-made-clause-reply c =
     ∙ ap (λ r. r.1) (sym (planned_is (planned c)))
     ∙ ap (λ (copy : Copy). (document_request copy.content c.args.seen c.args.now c.args.request.now).1) c.self.view_is
 
-stepped : (c : goal.Joined-made) → IsStep c.self.inside.documents c.args.now c.args.request.now (option_copied c.document_at-doc.result) c.in_ok-cas.cas c.in-Ok.change
-stepped c = record { all = c.self.invariant.0; is = c.requires.request; initial = c.name_of.ensures.initial; bound = omega arith; found = rw (← c.name_of.ensures.key) c.document_at-doc.ensures; step = c.in-Ok.ensures }
+stepped : (c : goal.Joined-made) → IsStep c.self.inside.documents c.args.now c.args.request.now (option_copied c.document_at-doc.result) c.max_ttl-lifetime.result c.in_ok-cas.cas c.in-Ok.change
+stepped c = record { all = c.self.invariant.0; is = c.requires.request; initial = c.requires.initial; bound = omega arith; found = c.document_at-doc.ensures ∙ ap (λ k. doc_of (map.get c.self.inside.documents k)) (sym (its_key c.args.request.now.body c.args.key.now c.requires.key)); step = c.in-Ok.ensures }
 
 pub returns-after-made-clause-fits : goal.returns-after-made-clause-fits
 returns-after-made-clause-fits c =
     change_fits c.args.request.now.body c.in-Ok.change c.in_ok-position.position c.in_ok-made-in-Ok.made.reply (change_small (stepped c)) c.in_ok-made-in-Ok.ensures.reply
 
-changing : (c : goal.After-self-then-made-1) → IsStep c.self.inside.documents c.args.now c.args.request.now (option_copied c.document_at-doc.result) c.in_ok-cas.cas c.in-Ok.change
-changing c = record { all = c.self.invariant.0; is = c.requires.request; initial = c.name_of.ensures.initial; bound = omega arith; found = rw (← c.name_of.ensures.key) c.document_at-doc.ensures; step = c.in-Ok.ensures }
+changing : (c : goal.After-self-then-made-1) → IsStep c.self.inside.documents c.args.now c.args.request.now (option_copied c.document_at-doc.result) c.max_ttl-lifetime.result c.in_ok-cas.cas c.in-Ok.change
+changing c = record { all = c.self.invariant.0; is = c.requires.request; initial = c.requires.initial; bound = omega arith; found = c.document_at-doc.ensures ∙ ap (λ k. doc_of (map.get c.self.inside.documents k)) (sym (its_key c.args.request.now.body c.args.key.now c.requires.key)); step = c.in-Ok.ensures }
 
 pub invariant_of-self-then-made : goal.invariant_of-self-then-made
-invariant_of-self-then-made c = (changed_small c.make.new.documents c.in_ok-position.position (changing c) c.in_ok-made-in-Ok.ensures.documents, c.self.invariant.1)
+invariant_of-self-then-made c = (changed_small c.make.new.documents c.in_ok-position.position (changing c) (made_at c.make.new.documents c.self.inside.documents c.in-Ok.change.effect c.in_ok-cas.cas c.in_ok-position.position c.args.request.now.body c.args.key.now c.requires.key c.in_ok-made-in-Ok.ensures.documents), c.self.invariant.1, c.self.invariant.2)
 
-staying : (c : goal.Else-made) → IsStep c.self.inside.documents c.args.now c.args.request.now (option_copied c.document_at-doc.result) c.in_ok-cas.cas c.in-Ok.change
-staying c = record { all = c.self.invariant.0; is = c.requires.request; initial = c.name_of.ensures.initial; bound = omega arith; found = rw (← c.name_of.ensures.key) c.document_at-doc.ensures; step = c.in-Ok.ensures }
+staying : (c : goal.Else-made) → IsStep c.self.inside.documents c.args.now c.args.request.now (option_copied c.document_at-doc.result) c.max_ttl-lifetime.result c.in_ok-cas.cas c.in-Ok.change
+staying c = record { all = c.self.invariant.0; is = c.requires.request; initial = c.requires.initial; bound = omega arith; found = c.document_at-doc.ensures ∙ ap (λ k. doc_of (map.get c.self.inside.documents k)) (sym (its_key c.args.request.now.body c.args.key.now c.requires.key)); step = c.in-Ok.ensures }
 
 pub invariant_of-self-else-made : goal.invariant_of-self-else-made
-invariant_of-self-else-made c = (changed_small c.make.new.documents c.in_ok-position.position (staying c) c.in_ok-made-in-Ok.ensures.documents, c.self.invariant.1)
+invariant_of-self-else-made c = (changed_small c.make.new.documents c.in_ok-position.position (staying c) (made_at c.make.new.documents c.self.inside.documents c.in-Ok.change.effect c.in_ok-cas.cas c.in_ok-position.position c.args.request.now.body c.args.key.now c.requires.key c.in_ok-made-in-Ok.ensures.documents), c.self.invariant.1, c.self.invariant.2)
 
 pub invariant_of-self : goal.invariant_of-self
-invariant_of-self c = (rw c.in_err-made-in-Ok.ensures.err c.self.invariant.0, c.self.invariant.1)
+invariant_of-self c = (rw c.in_err-made-in-Ok.ensures.err c.self.invariant.0, c.self.invariant.1, c.self.invariant.2)
