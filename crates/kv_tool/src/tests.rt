@@ -71,8 +71,8 @@ const QUITQ_AND_GET: &str = "\
     80 17 0000 00 00 0000 00000000 00000005 0000000000000000 \
     80 00 0001 00 00 0000 00000001 00000006 0000000000000000 61";
 
-// Asks for the features 0003, 0004, 000b and 0012.
-const HELLO: &str = "80 1f 0000 00 00 0000 00000008 00000007 0000000000000000 0003 0004 000b 0012";
+// Asks for the features 0003, 0004 and 000b.
+const HELLO: &str = "80 1f 0000 00 00 0000 00000006 00000007 0000000000000000 0003 0004 000b";
 
 const GRANTED: &str = "81 1f 0000 00 00 0000 00000002 00000007 0000000000000000 0004";
 
@@ -91,6 +91,29 @@ const NOT_SUPPORTED: &str = "81 01 0000 00 00 0083 00000000 00000005 00000000000
 const NO_SUCH_LEVEL: &str = "81 01 0000 00 00 00a0 00000000 00000005 0000000000000000";
 
 const INVALID: &str = "81 01 0000 00 00 0004 00000000 00000005 0000000000000000";
+
+// Asks for tokens and for collections.
+const HELLO_COLLECTIONS: &str =
+    "80 1f 0000 00 00 0000 00000004 00000007 0000000000000000 0004 0012";
+
+const GRANTED_COLLECTIONS: &str =
+    "81 1f 0000 00 00 0000 00000004 00000007 0000000000000000 0004 0012";
+
+// Manifests with and without a collection 8 called `fruit`, and with a cut-off text.
+const WITH_FRUIT: &str =
+    r#"{"uid":"1","scopes":[{"name":"_default","uid":"0","collections":[{"name":"_default","uid":"0"},{"name":"fruit","uid":"8"}]}]}"#;
+
+const WITHOUT_FRUIT: &str =
+    r#"{"uid":"1","scopes":[{"name":"_default","uid":"0","collections":[{"name":"_default","uid":"0"}]}]}"#;
+
+const EARLIER: &str =
+    r#"{"uid":"0","scopes":[{"name":"_default","uid":"0","collections":[{"name":"_default","uid":"0"}]}]}"#;
+
+const LATER: &str =
+    r#"{"uid":"2","scopes":[{"name":"_default","uid":"0","collections":[{"name":"_default","uid":"0"}]}]}"#;
+
+const FRUIT_AGAIN: &str =
+    r#"{"uid":"3","scopes":[{"name":"_default","uid":"0","collections":[{"name":"_default","uid":"0"},{"name":"fruit","uid":"8"}]}]}"#;
 
 const WITHOUT_A_MAGIC: &str = "82 00 0001 00 00 0000 00000001 deadbeef 0000000000000000 61";
 
@@ -209,6 +232,98 @@ fn features_and_levels_are_answered(rt: HostRuntime) -> Result<(), Fail> {
     for (frames, replies) in cases {
         assert_answered(&rt, rt.alloc(), frames, replies, Exit::Done)?;
     }
+    Ok(())
+}
+
+// Adds the bytes of hexadecimal digits and of a text.
+fn add(bytes: &mut Vec<u8>, digits: &str, text: &str) -> Result<(), Fail> {
+    add_hex(bytes, digits)?;
+    bytes.extend_from_slice(text.as_bytes())?;
+    Ok(())
+}
+
+#[test]
+fn manifests_decide_which_collections_there_are(rt: HostRuntime) -> Result<(), Fail> {
+    let alloc = rt.alloc();
+    let (mut input, mut output) = (Vec::new(alloc), Vec::new(alloc));
+    add_hex(&mut input, HELLO_COLLECTIONS)?;
+    add_hex(&mut output, GRANTED_COLLECTIONS)?;
+    // a header, a text behind it, and the reply
+    let cases: [(&str, &str, &str); 13] = [
+        (
+            "80 b9 0000 00 00 0000 0000007d 00000001 0000000000000000",
+            WITH_FRUIT,
+            "81 b9 0000 00 00 0000 00000000 00000001 0000000000000000",
+        ),
+        (
+            "80 b9 0000 00 00 0000 00000062 00000002 0000000000000000",
+            WITHOUT_FRUIT,
+            "81 b9 0000 00 00 008a 00000000 00000002 0000000000000000",
+        ),
+        (
+            "80 b9 0000 00 00 0000 00000062 00000003 0000000000000000",
+            EARLIER,
+            "81 b9 0000 00 00 008b 00000000 00000003 0000000000000000",
+        ),
+        (
+            "80 bb 000e 00 00 0000 0000000e 00000004 0000000000000000",
+            "_default.fruit",
+            "81 bb 0000 0c 00 0000 0000000c 00000004 0000000000000000 0000000000000001 00000008",
+        ),
+        (
+            "80 bb 0000 00 00 0000 0000000d 00000005 0000000000000000",
+            "_default.pear",
+            "81 bb 0000 00 00 0088 00000000 00000005 0000000000000000",
+        ),
+        (
+            "80 bc 0000 00 00 0000 00000008 00000006 0000000000000000",
+            "_default",
+            "81 bc 0000 0c 00 0000 0000000c 00000006 0000000000000000 0000000000000001 00000000",
+        ),
+        (
+            "80 bc 0007 00 00 0000 00000007 00000007 0000000000000000",
+            "nowhere",
+            "81 bc 0000 00 00 008c 00000000 00000007 0000000000000000",
+        ),
+        (
+            "80 01 0002 08 00 0000 0000000b 00000008 0000000000000000 0000000000000000 08 61",
+            "1",
+            "81 01 0000 10 00 0000 00000010 00000008 0000000000000001 0000000000000004 0000000000000002",
+        ),
+        (
+            "80 b9 0000 00 00 0000 00000062 00000009 0000000000000000",
+            LATER,
+            "81 b9 0000 00 00 0000 00000000 00000009 0000000000000000",
+        ),
+        (
+            "80 00 0002 00 00 0000 00000002 0000000a 0000000000000000 08",
+            "a",
+            "81 00 0000 00 00 0088 00000000 0000000a 0000000000000000",
+        ),
+        (
+            "80 b9 0000 00 00 0000 0000007d 0000000b 0000000000000000",
+            FRUIT_AGAIN,
+            "81 b9 0000 00 00 008a 00000000 0000000b 0000000000000000",
+        ),
+        (
+            "80 b9 0000 00 00 0000 00000001 0000000c 0000000000000000",
+            "{",
+            "81 b9 0000 00 00 0004 00000000 0000000c 0000000000000000",
+        ),
+        (
+            "80 ba 0000 00 00 0000 00000000 0000000d 0000000000000000",
+            "",
+            "81 ba 0000 00 00 0000 00000062 0000000d 0000000000000000",
+        ),
+    ];
+    for (header, text, reply) in cases {
+        add(&mut input, header, text)?;
+        add_hex(&mut output, reply)?;
+    }
+    add(&mut output, "", LATER)?;
+    let (exit, sink) = run(alloc, &["pipe"], input, WHOLE)?;
+    assert_eq!(rt; exit, Exit::Done);
+    assert_eq!(rt; sink.bytes(), output.as_slice());
     Ok(())
 }
 
