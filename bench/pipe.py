@@ -4,9 +4,10 @@ machine counts little; peak memory is that of the whole process.
 
     bench/pipe.py [PROGRAM]     default: crates/hawoyefa/out/hawoyefa
 
-Three measurements:
+Four measurements:
 - Set and Get over 10,000 keys with values of 100 bytes, 100,000 of them and then 1,000,000: how time and memory grow;
 - all operations, 1,000,000 of them, over 10,000 and then 1,000,000 live keys, which are stored first and not timed;
+- 1,000,000 Gets among 1,000,000 documents in one collection and in 1,200;
 - one Set of 20 MiB, and then a Get, written to the program a byte at a time and in one piece.
 """
 import os
@@ -77,6 +78,37 @@ def mixed(out, requests: int, keys: int) -> None:
         out.write(operation(i, keys))
 
 
+HELLO, SET_MANIFEST = 0x1F, 0xB9
+
+
+def leb128(number: int) -> bytes:
+    """The shortest unsigned LEB128 spelling."""
+    out = bytearray()
+    while number >= 0x80:
+        out.append(number & 0x7F | 0x80)
+        number >>= 7
+    return bytes(out + bytes([number]))
+
+
+def manifest(collections: int) -> bytes:
+    """A manifest with this many collections: that of the start and ids from 8 on."""
+    ids = [0, *range(8, collections + 7)]
+    named = ",".join('{"name":"%s","uid":"%x"}' % ("_default" if i == 0 else "c%d" % i, i) for i in ids)
+    return ('{"uid":"1","scopes":[{"name":"_default","uid":"0","collections":[%s]}]}' % named).encode()
+
+
+def in_collections(out, collections: int, documents: int, gets: int) -> None:
+    """Documents spread over collections, and Gets of documents far apart."""
+    ids = [leb128(i) for i in [0, *range(8, collections + 7)]]
+    out.write(frame(HELLO, 0, b"", b"", b"\x00\x12"))
+    out.write(frame(SET_MANIFEST, 0, b"", b"", manifest(collections)))
+    for i in range(documents):
+        out.write(frame(SETQ, 0, bytes(8), ids[i % collections] + b"key-%07d" % i, VALUE))
+    for i in range(gets):
+        at = i * 7919 % documents
+        out.write(frame(GET, i & 0xFFFFFFFF, b"", ids[at % collections] + b"key-%07d" % at, b""))
+
+
 def run(path: str) -> tuple[float, int]:
     """Processor seconds and peak memory in bytes of one run; its replies go nowhere."""
     with open(path, "rb") as source, open(os.devnull, "wb") as sink:
@@ -136,6 +168,17 @@ def main() -> None:
             f"{1_000_000 / mix[keys]:>10.0f} requests/s  peak {peak / 1e6:7.1f} MB"
         )
     print(f"a hundred times the keys take {mix[1_000_000] / mix[10_000]:.1f} times as long")
+
+    gets = {}
+    for collections in (1, 1_200):
+        before, _, _ = timed(lambda out: in_collections(out, collections, 1_000_000, 0))
+        seconds, _, _ = timed(lambda out: in_collections(out, collections, 1_000_000, 1_000_000))
+        gets[collections] = seconds - before
+        print(
+            f"{collections:>9} collections  {gets[collections]:7.3f} s for 1,000,000 Gets among 1,000,000 documents  "
+            f"{1_000_000 / gets[collections]:>10.0f} requests/s"
+        )
+    print(f"1,200 collections take {gets[1_200] / gets[1]:.2f} times as long as one")
 
     for piece in (1, 65536):
         print(f"a frame of 20 MiB in writes of {piece} bytes: {piecewise(piece):.3f} s")
