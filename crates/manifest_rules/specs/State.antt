@@ -1,10 +1,10 @@
 -- The state of a manifest in bytes: its text and the ids that were ever dropped.
-use Rattle.std.specs.Prelude.{◌≡◌, ℕ, ◌+◌, ◌^◌, nat_eq, nat_lt, nat_le, Bool, true, ◌&&◌, not, List, [], ◌∷◌, ◌++◌, length, drop, IsTrue, Option, MatchOption}
+use Rattle.std.specs.Prelude.{◌≡◌, ℕ, ◌+◌, ◌*◌, ◌≤◌, ◌<◌, ◌^◌, nat_eq, nat_lt, nat_le, Bool, true, ◌&&◌, not, List, [], ◌∷◌, ◌++◌, length, drop, IsTrue, Option, MatchOption}
 use Rattle.std.specs.List.{list_all, list_any, flat_map}
 use Rattle.std.specs.Int.{w32, to_be_bytes}
 use Rattle.manifest_rules.specs.declared.state.StateFault.{StateFault}
 use Rattle.manifest_rules.specs.declared.state.StateFault.TheVariants as fault
-use Rattle.manifest_rules.specs.declared.types.TheConstants.{DROPPED_LIMIT}
+use Rattle.manifest_rules.specs.declared.types.TheConstants.{DROPPED_LIMIT, TEXT_LIMIT}
 use Rattle.manifest_rules.specs.Catalog.{Catalog, scope_ids, collection_ids, numbers_fit}
 use Rattle.manifest_rules.specs.Text.{text_of}
 use Rattle.manifest_rules.specs.Rules.{is_small, obeys_alone}
@@ -74,13 +74,32 @@ pub record IdsAt (present bytes gone : List ℕ) (size : ℕ) : Type 0 where
   pub front : bytes ≡ ids_bytes gone ++ drop size bytes
   pub len : size ≡ length (ids_bytes gone)
 
--- The bytes break the layout at a place: what stands before the place is as it is in the state of a kept manifest, and
--- the part that has to begin there doesn't: the text, the ids of scopes, or the ids of collections.
+-- no number up to a limit stands at the front, in four bytes
+abbrev pub NoCount : ℕ → List ℕ → Type 0
+NoCount limit bytes = (count : ℕ) (rest : List ℕ) → count ≤ limit → bytes ≡ to_be_bytes w32 count ++ rest → ⊥
+
+-- A text breaks off at an offset. Its fields are its length and itself: no length that a text may have stands at the
+-- front, or behind it no text of that length, of a manifest that obeys its own rules.
+pub data TextBreaks (bytes : List ℕ) (offset : ℕ) : Type 0 where
+  at_length : offset ≡ 0 → NoCount TEXT_LIMIT bytes → TextBreaks bytes offset
+  at_text : (count : ℕ) (rest : List ℕ) → offset ≡ 4 → count ≤ TEXT_LIMIT → bytes ≡ to_be_bytes w32 count ++ rest
+      → ((m : Catalog) (more : List ℕ) → IsTrue (is_sound m) → length (text_of m) ≡ count → rest ≡ text_of m ++ more → ⊥) → TextBreaks bytes offset
+
+-- Ids that may have been dropped where others are there break off at an offset. Their fields are their count and each of
+-- them: no count that they may have stands at the front, or behind it fewer ids than that, and then no further one.
+pub data IdsBreak (present bytes : List ℕ) (offset : ℕ) : Type 0 where
+  at_count : offset ≡ 0 → NoCount DROPPED_LIMIT bytes → IdsBreak present bytes offset
+  at_id : (count : ℕ) (gone rest : List ℕ) → offset ≡ 4 + 4 * length gone → count ≤ DROPPED_LIMIT → length gone < count
+      → bytes ≡ to_be_bytes w32 count ++ flat_map (to_be_bytes w32) gone ++ rest → IsTrue (are_gone present gone)
+      → ((id : ℕ) (more : List ℕ) → IsTrue (are_gone present (gone ++ id ∷ [])) → rest ≡ to_be_bytes w32 id ++ more → ⊥) → IdsBreak present bytes offset
+
+-- The bytes break the layout at a place: what stands before it is as it is in the state of a kept manifest, and the field
+-- that has to begin there doesn't.
 pub data Breaks (bytes : List ℕ) (place : ℕ) : Type 0 where
-  at_text : place ≡ 0 → NoText bytes → Breaks bytes place
-  at_scopes : (m : Catalog) → TextAt bytes m place → NoIds (scope_ids m.scopes) (drop place bytes) → Breaks bytes place
-  at_collections : (m : Catalog) (text size : ℕ) (gone : List ℕ) → TextAt bytes m text → IdsAt (scope_ids m.scopes) (drop text bytes) gone size → place ≡ text + size
-      → NoIds (collection_ids m.scopes) (drop place bytes) → Breaks bytes place
+  in_text : TextBreaks bytes place → Breaks bytes place
+  in_scopes : (m : Catalog) (text offset : ℕ) → place ≡ text + offset → TextAt bytes m text → IdsBreak (scope_ids m.scopes) (drop text bytes) offset → Breaks bytes place
+  in_collections : (m : Catalog) (text size offset : ℕ) (gone : List ℕ) → place ≡ text + size + offset → TextAt bytes m text
+      → IdsAt (scope_ids m.scopes) (drop text bytes) gone size → IdsBreak (collection_ids m.scopes) (drop (text + size) bytes) offset → Breaks bytes place
 
 -- why no manifest was read: the bytes are the front of no kept manifest's state, and break the layout at the place
 abbrev pub IsNoState : List ℕ → StateFault → Type 0

@@ -5,7 +5,7 @@ ghost use Rattle.std.specs.List.{list_any};
 ghost use Rattle.manifest_rules.specs.Catalog.{Catalog, scope_ids, collection_ids, numbers_fit};
 ghost use Rattle.manifest_rules.specs.Form.{catalog_in};
 ghost use Rattle.manifest_rules.specs.Rules.{manifest_step, first_catalog};
-ghost use Rattle.manifest_rules.specs.State.{is_kept, state_of};
+ghost use Rattle.manifest_rules.specs.State.{is_kept, state_of, IsAt, Breaks};
 ghost use Rattle.manifest_rules.specs.Text.{text_of};
 ghost use Rattle.manifest_rules.specs.Laws.{left_by, run, without_dropped};
 
@@ -41,4 +41,10 @@ pub fn kept_stays_kept()
 pub fn state_is_read_back()
     ensures { (m : Catalog) (n : Catalog) (rest : List ℕ) (more : List ℕ) → IsTrue (is_kept m) → IsTrue (is_kept n)
         → state_of m ++ rest ≡ state_of n ++ more → m ≡ n }
+{}
+
+/// Bytes break the layout of a state at one place, and then they begin with no state.
+pub fn one_broken_place()
+    ensures place { (bytes : List ℕ) (first second : ℕ) → Breaks bytes first → Breaks bytes second → first ≡ second }
+    ensures none { (bytes : List ℕ) (place : ℕ) (m : Catalog) (size : ℕ) → Breaks bytes place → IsAt bytes m size → ⊥ }
 {}

@@ -44,8 +44,9 @@
 //! | 8 + n + 4 k | how many ids of collections were ever dropped, m |
 //! | 12 + n + 4 k | these ids in rising order, 4 m bytes |
 //!
-//! Its three parts begin at 0, at 4 + n and at 8 + n + 4 k; the place of a fault is where the first part begins that
-//! breaks the layout.
+//! Its fields are the length of the text, at most 1,048,576, the text, and each count, at most 65,536, and each id behind
+//! it, which is greater than the one before and is none of the manifest's. The place of a fault is where the first field
+//! begins that isn't there or isn't so.
 //!
 //! Worked example, the state of the manifest that a store begins with:
 //!
@@ -71,7 +72,7 @@ mod writing;
 
 pub use applying::{Dropped, apply};
 pub use laws::{
-    equal_changes_nothing, kept_stays_kept, no_id_comes_back, state_is_read_back, text_is_read_back,
+    equal_changes_nothing, kept_stays_kept, no_id_comes_back, one_broken_place, state_is_read_back, text_is_read_back,
 };
 pub use manifest::{Manifest, dropped_collections, dropped_scopes, first, has, max_ttl, uid};
 pub use paths::{collection_of, scope_of};

@@ -19,7 +19,7 @@ use std::alloc::Global;
 /// Why no manifest was read from a state.
 #[derive(Clone, Copy, Debug, PartialEq, Eq)]
 pub enum StateFault {
-    /// The bytes don't begin with the state of a manifest. The offset is that of the first part that breaks the layout.
+    /// The bytes don't begin with the state of a manifest. The offset is that of the first field that breaks the layout.
     Bad(usize),
     /// Memory was refused.
     NoMemory,
