@@ -1,3 +1,4 @@
 pub mod Entries
 pub mod Drops
 mod Walks
+mod Slots

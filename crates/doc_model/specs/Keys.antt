@@ -1,9 +1,7 @@
 -- The order of keys, and what a map by keys has.
-use Rattle.std.specs.Prelude.{ℕ, ◌≤◌, Bool, List, refl}
+use Rattle.std.specs.Prelude.{ℕ, ◌≤◌, Bool, List, [], ◌∷◌, refl}
 use Rattle.std.specs.declared.cmp.Ordering.{Ordering}
 use Rattle.std.specs.List.{list_any, AllByRecursion}
-use Rattle.std.specs.List.Sorted.{IsStrictlySortedBy}
-use Rattle.std.specs.Map.{keys_of}
 use Rattle.std.specs.Ordering.{nat_cmp, ordering_then, eq_by_cmp}
 use Rattle.std.specs.Cmp.Lexicographic.{slice_cmp}
 use Rattle.std.specs.Coded.{Coded, code_by, coded×, coded_ℕ, coded_list}
@@ -21,7 +19,12 @@ coded_key = code_by (ℕ × List ℕ) (coded× coded_ℕ (coded_list coded_ℕ))
 abbrev pub is_among : List DocKey → DocKey → Bool
 is_among keys key = list_any (eq_by_cmp key_cmp key) keys
 
--- entries in the order of their keys, from a collection's first on
-pub record BeginsAt {X : Type 0} (collection : ℕ) (entries : List (DocKey × X)) : Type 0 where
-  pub sorted : IsStrictlySortedBy key_cmp (keys_of entries)
-  pub from : AllByRecursion (λ e. collection ≤ e.0.collection) entries
+-- the collections of keys do not fall
+abbrev pub Ascend : List DocKey → Type 0
+Ascend [] = Unit {0}
+Ascend (k ∷ ks) = AllByRecursion (λ l. k.collection ≤ l.collection) ks × Ascend ks
+
+-- keys in the order of their collections, from this one on
+pub record BeginsAt (collection : ℕ) (keys : List DocKey) : Type 0 where
+  pub ascend : Ascend keys
+  pub from : AllByRecursion (λ k. collection ≤ k.collection) keys

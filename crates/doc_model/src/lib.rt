@@ -7,6 +7,7 @@ mod document;
 mod key;
 mod key_map;
 mod numbers;
+mod slot;
 mod status;
 
 pub use document::{Doc, Item, What};

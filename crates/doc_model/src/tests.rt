@@ -1,3 +1,4 @@
+use crate::slot::slot_of;
 use crate::{Doc, DocKey, Item, KeyMap, Refused, Status, What};
 use kv_edge::{Bytes, Copied, NoMemory};
 use std::alloc::Global;
@@ -72,15 +73,47 @@ fn a_map_has_what_was_inserted_last_and_not_what_was_removed(rt: HostRuntime) ->
     let mut map = KeyMap::<u8>::new(alloc);
     let here = key(alloc, 0, b"a")?;
     let there = key(alloc, 8, b"a")?;
-    assert_eq!(rt; map.insert(here.copy(alloc)?, 1)?, None);
-    assert_eq!(rt; map.insert(there.copy(alloc)?, 2)?, None);
-    assert_eq!(rt; map.insert(here.copy(alloc)?, 3)?, Some(1));
+    assert_eq!(rt; map.insert(alloc, &here, 1)?, None);
+    assert_eq!(rt; map.insert(alloc, &there, 2)?, None);
+    assert_eq!(rt; map.insert(alloc, &here, 3)?, Some(1));
     assert_eq!(rt; map.get(&here).copied(), Some(3));
     assert_eq!(rt; map.get(&there).copied(), Some(2));
     assert_eq!(rt; map.remove(&here), Some(3));
     assert_eq!(rt; map.remove(&here), None);
     assert!(rt; !map.contains_key(&here));
     assert!(rt; map.contains_key(&there));
+    Ok(())
+}
+
+/// Whichever of two keys that have one slot comes first, each is found, replaced and taken away by itself.
+#[test]
+fn two_keys_may_have_one_slot(rt: HostRuntime) -> Result<(), Fail> {
+    let alloc = rt.alloc();
+    let coma = key(alloc, 8, b"coma")?;
+    let gmjg = key(alloc, 8, b"gmjg")?;
+    assert_eq!(rt; slot_of(&coma), slot_of(&gmjg));
+    for (first, second) in [(&coma, &gmjg), (&gmjg, &coma)] {
+        let mut map = KeyMap::<u8>::new(alloc);
+        assert_eq!(rt; map.insert(alloc, first, 1)?, None);
+        assert_eq!(rt; map.get(second).copied(), None);
+        assert_eq!(rt; map.insert(alloc, second, 2)?, None);
+        assert_eq!(rt; map.insert(alloc, first, 3)?, Some(1));
+        assert_eq!(rt; map.insert(alloc, second, 4)?, Some(2));
+        assert_eq!(rt; map.get(first).copied(), Some(3));
+        assert_eq!(rt; map.get(second).copied(), Some(4));
+        assert_eq!(rt; map.keys_in(alloc, &[8])?.len(), 2);
+
+        assert_eq!(rt; map.remove(first), Some(3));
+        assert_eq!(rt; map.get(first).copied(), None);
+        assert_eq!(rt; map.get(second).copied(), Some(4));
+        // the second moves into the slot that is free now
+        assert_eq!(rt; map.insert(alloc, second, 5)?, Some(4));
+        assert_eq!(rt; map.insert(alloc, first, 6)?, None);
+        assert_eq!(rt; map.remove(second), Some(5));
+        assert_eq!(rt; map.remove(second), None);
+        assert_eq!(rt; map.remove(first), Some(6));
+        assert_eq!(rt; map.keys_in(alloc, &[8])?.len(), 0);
+    }
     Ok(())
 }
 
@@ -95,14 +128,18 @@ fn the_keys_of_collections_are_found_and_taken_away(rt: HostRuntime) -> Result<(
         (0, b"a"),
         (8, b"a"),
     ] {
-        map.insert(key(alloc, collection, name)?, 1)?;
+        map.insert(alloc, &key(alloc, collection, name)?, 1)?;
     }
     let keys = map.keys_in(alloc, &[8, 7, 0xffff_ffff])?;
     assert_eq!(rt; keys.len(), 3);
     let found = keys.as_slice();
-    assert_eq!(rt; found[0], key(alloc, 8, b"a")?);
-    assert_eq!(rt; found[1], key(alloc, 8, b"b")?);
-    assert_eq!(rt; found[2], key(alloc, 0xffff_ffff, b"z")?);
+    for wanted in [
+        key(alloc, 8, b"a")?,
+        key(alloc, 8, b"b")?,
+        key(alloc, 0xffff_ffff, b"z")?,
+    ] {
+        assert!(rt; found.contains(&wanted));
+    }
 
     map.remove_all(found);
     for (collection, there) in [(0, true), (8, false), (9, true), (0xffff_ffff, false)] {

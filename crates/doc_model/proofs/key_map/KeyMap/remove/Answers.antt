@@ -1,10 +1,69 @@
-use Rattle.std.proofs.Common.{sym, ◌∙◌, ap}
 use Rattle.std.specs.FinMap as map
-use Rattle.doc_model.proofs.Entries.{get_value, one_removed}
+use Rattle.std.proofs.Common.{sym, ◌∙◌, ap}
+use Rattle.doc_model.proofs.Slots.{from_slot, from_others, told_same, is_had, is_free, is_others, placed_removed, slot_freed, other_gone}
+use Rattle.std.specs.BTreeMap.{is_at}
+use Rattle.doc_model.specs.Slots.{slot_cmp}
 use Rattle.doc_model.proofs.key_map.KeyMap.remove.Goals as goal
+use Rattle.doc_model.proofs.key_map.KeyMap.remove.Goals.{in-Some-remove, in-None}
 
-pub returns-clause-before : goal.returns-clause-before
-returns-clause-before g c = c.remove.ensures.value ∙ sym (get_value c.self.inside.entries.entries c.args.key.now) ∙ ap (λ m. map.get m c.args.key.now) c.self.view_is
+pub invariant_of-self : goal.invariant_of-self
+invariant_of-self g c =
+    placed_removed c.self.inside.slots.entries c.remove.new.self.entries (is_at (slot_cmp c.slot_of-slot.result)) c.remove.ensures.entries c.self.invariant c.remove.ensures.ordered
 
-pub returns-clause-removed : goal.returns-clause-removed
-returns-clause-removed g c = one_removed c.self.inside.entries.entries c.remove.new.self.entries c.args.key.now c.remove.ensures.updates.0 ∙ ap (λ m. map.remove m c.args.key.now) c.self.view_is
+pub returns-then-eq-clause-before : goal.returns-then-eq-clause-before
+returns-then-eq-clause-before g c =
+    let es = c.self.inside.slots.entries in
+    let key = c.args.key.now in
+    let there = c.in-Some.entry.now in
+    let there_is = c.in-Some.ensures.value in
+    elim c.match-remove.branch [
+      | in-Some-remove w ↦
+          w.result-is
+          ∙ from_slot es c.self.inside.others.entries c.args.self.now key _ c.self.view_is c.self.invariant
+          (is_had es c.slot_of-slot.result key there _ c.slot_of-slot.ensures there_is (told_same there.0 key c.eq.result c.eq.ensures c.if-eq.true) w.in-Some-remove.ensures.value)
+      | in-None w ↦ absurd (let e = w.in-None.ensures.value ∙ sym there_is in cc)
+    ]
+
+pub returns-then-eq-clause-removed : goal.returns-then-eq-clause-removed
+returns-then-eq-clause-removed g c =
+    let es = c.self.inside.slots.entries in
+    let key = c.args.key.now in
+    let there = c.in-Some.entry.now in
+    slot_freed es c.remove.new.self.entries c.self.inside.others.entries c.remove-elsewhere.new.self.entries c.slot_of-slot.result key there
+    c.slot_of-slot.ensures (told_same there.0 key c.eq.result c.eq.ensures c.if-eq.true) c.in-Some.ensures.value c.remove.ensures.updates.0 c.remove-elsewhere.ensures.updates.0 c.self.invariant
+    (placed_removed es c.remove.new.self.entries (is_at (slot_cmp c.slot_of-slot.result)) c.remove.ensures.entries c.self.invariant c.remove.ensures.ordered)
+    ∙ ap (λ m. map.remove m key) c.self.view_is
+
+pub returns-else-eq-clause-before : goal.returns-else-eq-clause-before
+returns-else-eq-clause-before g c =
+    let es = c.self.inside.slots.entries in
+    let key = c.args.key.now in
+    from_others es c.self.inside.others.entries c.args.self.now key c.remove-elsewhere.result c.self.view_is c.self.invariant
+    (is_others es c.slot_of-slot.result key c.in-Some.entry.now c.eq.result c.slot_of-slot.ensures c.in-Some.ensures.value c.eq.ensures c.if-eq.false)
+    c.remove-elsewhere.ensures.value
+
+pub returns-else-eq-clause-removed : goal.returns-else-eq-clause-removed
+returns-else-eq-clause-removed g c =
+    let es = c.self.inside.slots.entries in
+    let key = c.args.key.now in
+    other_gone es c.self.inside.others.entries c.remove-elsewhere.new.self.entries key
+    (is_others es c.slot_of-slot.result key c.in-Some.entry.now c.eq.result c.slot_of-slot.ensures c.in-Some.ensures.value c.eq.ensures c.if-eq.false)
+    c.remove-elsewhere.ensures.updates.0 c.self.invariant
+    ∙ ap (λ m. map.remove m key) c.self.view_is
+
+pub returns-in_default-clause-before : goal.returns-in_default-clause-before
+returns-in_default-clause-before g c =
+    let es = c.self.inside.slots.entries in
+    let key = c.args.key.now in
+    from_others es c.self.inside.others.entries c.args.self.now key c.remove-elsewhere.result c.self.view_is c.self.invariant
+    (is_free es c.slot_of-slot.result key c.slot_of-slot.ensures c.in_default.ensures.value)
+    c.remove-elsewhere.ensures.value
+
+pub returns-in_default-clause-removed : goal.returns-in_default-clause-removed
+returns-in_default-clause-removed g c =
+    let es = c.self.inside.slots.entries in
+    let key = c.args.key.now in
+    other_gone es c.self.inside.others.entries c.remove-elsewhere.new.self.entries key
+    (is_free es c.slot_of-slot.result key c.slot_of-slot.ensures c.in_default.ensures.value)
+    c.remove-elsewhere.ensures.updates.0 c.self.invariant
+    ∙ ap (λ m. map.remove m key) c.self.view_is
