@@ -48,10 +48,6 @@ pub record IsAt (bytes : List ℕ) (m : Catalog) (size : ℕ) : Type 0 where
   pub front : bytes ≡ state_of m ++ drop size bytes
   pub len : size ≡ length (state_of m)
 
--- no text of a manifest that obeys its own rules stands at the front
-abbrev pub NoText : List ℕ → Type 0
-NoText bytes = (m : Catalog) (rest : List ℕ) → IsTrue (is_sound m) → bytes ≡ text_bytes m ++ rest → ⊥
-
 -- the manifest that obeys its own rules and has this text, with no dropped ids, where there is one
 abbrev pub SoundText : List ℕ → Option Catalog → Type 0
 SoundText text found =
@@ -64,11 +60,7 @@ pub record TextAt (bytes : List ℕ) (m : Catalog) (size : ℕ) : Type 0 where
   pub front : bytes ≡ text_bytes m ++ drop size bytes
   pub len : size ≡ length (text_bytes m)
 
--- no ids that may have been dropped where these are there stand at the front
-abbrev pub NoIds : List ℕ → List ℕ → Type 0
-NoIds present bytes = (gone rest : List ℕ) → IsTrue (are_gone present gone) → bytes ≡ ids_bytes gone ++ rest → ⊥
-
--- such ids are this many bytes at the front
+-- ids that may have been dropped where others are there are this many bytes at the front, behind their count
 pub record IdsAt (present bytes gone : List ℕ) (size : ℕ) : Type 0 where
   pub may : IsTrue (are_gone present gone)
   pub front : bytes ≡ ids_bytes gone ++ drop size bytes
@@ -77,6 +69,20 @@ pub record IdsAt (present bytes gone : List ℕ) (size : ℕ) : Type 0 where
 -- no number up to a limit stands at the front, in four bytes
 abbrev pub NoCount : ℕ → List ℕ → Type 0
 NoCount limit bytes = (count : ℕ) (rest : List ℕ) → count ≤ limit → bytes ≡ to_be_bytes w32 count ++ rest → ⊥
+
+-- a number up to a limit stands at the front, and then the rest
+pub record CountAt (limit : ℕ) (bytes : List ℕ) (count : ℕ) (rest : List ℕ) : Type 0 where
+  pub few : count ≤ limit
+  pub front : bytes ≡ to_be_bytes w32 count ++ rest
+
+-- no id stands at the front that may have been dropped with the ones before it
+abbrev pub NoId : List ℕ → List ℕ → List ℕ → Type 0
+NoId present before bytes = (id : ℕ) (more : List ℕ) → IsTrue (are_gone present (before ++ id ∷ [])) → bytes ≡ to_be_bytes w32 id ++ more → ⊥
+
+-- such an id stands at the front, and then the rest
+pub record IdAt (present before bytes : List ℕ) (id : ℕ) (rest : List ℕ) : Type 0 where
+  pub may : IsTrue (are_gone present (before ++ id ∷ []))
+  pub front : bytes ≡ to_be_bytes w32 id ++ rest
 
 -- A text breaks off at an offset. Its fields are its length and itself: no length that a text may have stands at the
 -- front, or behind it no text of that length, of a manifest that obeys its own rules.
@@ -91,7 +97,17 @@ pub data IdsBreak (present bytes : List ℕ) (offset : ℕ) : Type 0 where
   at_count : offset ≡ 0 → NoCount DROPPED_LIMIT bytes → IdsBreak present bytes offset
   at_id : (count : ℕ) (gone rest : List ℕ) → offset ≡ 4 + 4 * length gone → count ≤ DROPPED_LIMIT → length gone < count
       → bytes ≡ to_be_bytes w32 count ++ flat_map (to_be_bytes w32) gone ++ rest → IsTrue (are_gone present gone)
-      → ((id : ℕ) (more : List ℕ) → IsTrue (are_gone present (gone ++ id ∷ [])) → rest ≡ to_be_bytes w32 id ++ more → ⊥) → IdsBreak present bytes offset
+      → NoId present gone rest → IdsBreak present bytes offset
+
+-- why no text was read: it breaks off at the offset
+abbrev pub IsTextFault : List ℕ → StateFault → Type 0
+IsTextFault bytes (fault.Bad offset) = TextBreaks bytes offset
+IsTextFault bytes fault.NoMemory = Unit {0}
+
+-- why no ids were read behind so many bytes: they break off at the place, which counts from the beginning of all bytes
+abbrev pub IsIdsFault : List ℕ → List ℕ → ℕ → StateFault → Type 0
+IsIdsFault present bytes start (fault.Bad place) = (offset : ℕ) × (place ≡ start + offset) × IdsBreak present (drop start bytes) offset
+IsIdsFault present bytes start fault.NoMemory = Unit {0}
 
 -- The bytes break the layout at a place: what stands before it is as it is in the state of a kept manifest, and the field
 -- that has to begin there doesn't.

@@ -1,5 +1,6 @@
 ghost use Rattle.std.specs.Prelude.{◌≡◌, ◌≤◌, ◌++◌, nat_eq, nat_lt, map, length, IfOk, OnOk};
 ghost use Rattle.std.specs.List.{list_any, prefix_len};
+ghost use Rattle.std.specs.List.Sorted.{IsNonDecreasing, IsPermutation};
 ghost use Rattle.manifest_rules.specs.Catalog.{scope_ids, collection_ids};
 ghost use Rattle.manifest_rules.specs.Rules.{lost, with_id, with_ids as with_all};
 
@@ -19,6 +20,24 @@ pub(crate) fn share_id(ids: &[u32], others: &[u32]) -> bool
     ensures { result ≡ list_any (λ id. list_any (nat_eq id) others.now) ids.now }
 {
     ids.iter().any(|id| has_id(others, *id))
+}
+
+/// A copy of ids from the least to the greatest.
+pub(crate) fn sorted(alloc: Global, ids: &[u32]) -> Result<Vec<u32>, NoMemory>
+    ensures same { IfOk result (λ sorted. IsPermutation ids.now sorted.items) }
+    ensures sorted { IfOk result (λ sorted. IsNonDecreasing sorted.items) }
+{
+    let mut sorted = Vec::from_slice(alloc, ids)?;
+    sorted.sort_unstable();
+    Ok(sorted)
+}
+
+/// Whether an id is among ids that stand from the least to the greatest.
+pub(crate) fn is_among_sorted(ids: &[u32], id: u32) -> bool
+    requires { IsNonDecreasing ids.now }
+    ensures { result ≡ list_any (nat_eq id) ids.now }
+{
+    ids.binary_search(&id).is_ok()
 }
 
 /// The ids of scopes, in order.

@@ -1,20 +1,19 @@
-ghost use Rattle.std.specs.Prelude.{◌≡◌, ◌<◌, ◌^◌, ◌++◌, ◌*◌, ◌↔◌, nat_lt, [], true, length, flat_map, IsTrue, IfOk, IfErr, OnOk, OnErr, MatchOption};
-ghost use Rattle.std.specs.List.{list_all};
-ghost use Rattle.std.specs.Int.{w32, to_be_bytes};
-ghost use Rattle.manifest_rules.specs.Catalog.{scope_ids, collection_ids};
+ghost use Rattle.std.specs.Prelude.{◌≡◌, ◌<◌, ◌≤◌, ◌^◌, ◌++◌, ◌↔◌, [], ◌∷◌, length, drop, IsTrue, IfOk, IfErr, OnOk, OnErr, MatchOption};
+ghost use Rattle.std.specs.List.Sorted.{IsNonDecreasing};
+ghost use Rattle.manifest_rules.specs.declared.types.TheConstants.{DROPPED_LIMIT};
 ghost use Rattle.manifest_rules.specs.Text.{text_of};
-ghost use Rattle.manifest_rules.specs.State.{are_rising, is_sound, is_kept, ids_bytes, text_bytes, state_of, IsAt, NoText, SoundText, TextAt, NoIds, IdsAt, IsNoState};
+ghost use Rattle.manifest_rules.specs.State.{are_rising, is_sound, are_gone, is_kept, ids_bytes, text_bytes, state_of, IsAt, SoundText, TextAt, NoCount, CountAt, NoId, IdAt, IdsAt, IsTextFault, IsIdsFault, IsNoState};
 ghost use Rattle.manifest_rules.specs.declared.state.StateFault.TheVariants as faults;
 
-use crate::ids::share_id;
+use crate::ids::{is_among_sorted, sorted};
 use crate::manifest::{Manifest, dropped_collections, dropped_scopes, scopes, uid, with_dropped};
 use crate::reading::read_manifest;
 use crate::sound::{ids_of, obeys_itself};
-use crate::types::DROPPED_LIMIT;
+use crate::types::{DROPPED_LIMIT, TEXT_LIMIT};
 use crate::writing::text;
 use doc_model::Refused;
 use kv_edge::{NoMemory, Seq, slice_at, u32_at};
-use std::alloc::Global;
+use std::alloc::{AllocFailed, Global};
 
 /// Why no manifest was read from a state.
 #[derive(Clone, Copy, Debug, PartialEq, Eq)]
@@ -29,6 +28,14 @@ impl From<NoMemory> for StateFault {
     ghost from_gives = { λ _ fault. fault ≡ faults.NoMemory };
 
     fn from(_refused: NoMemory) -> StateFault {
+        StateFault::NoMemory
+    }
+}
+
+impl<T: Drop> From<AllocFailed<T>> for StateFault {
+    ghost from_gives = { λ _ fault. fault ≡ faults.NoMemory };
+
+    fn from(_refused: AllocFailed<T>) -> StateFault {
         StateFault::NoMemory
     }
 }
@@ -79,40 +86,44 @@ pub fn read_state(alloc: Global, bytes: &[u8]) -> Result<(Manifest, usize), Stat
     ensures found { IfOk result (λ x. IsAt bytes.now x.0 x.1) }
     ensures none { IfErr result (IsNoState bytes.now) }
 {
-    let (manifest, text) = match read_text(alloc, bytes)? {
-        Some(found) => found,
-        None => return Err(StateFault::Bad(0)),
-    };
+    let (manifest, text) = read_text(alloc, bytes)?;
     let ids = ids_of(alloc, scopes(&manifest))?;
-    let (_, rest) = bytes.split_at(text);
-    let (gone_scopes, size) = match read_ids(alloc, rest, ids.scopes.as_slice())? {
-        Some(found) => found,
-        None => return Err(StateFault::Bad(text)),
-    };
-    let (_, rest) = rest.split_at(size);
-    let (gone, last) = match read_ids(alloc, rest, ids.collections.as_slice())? {
-        Some(found) => found,
-        None => return Err(StateFault::Bad(text + size)),
-    };
+    let (gone_scopes, size) = read_ids(alloc, bytes, text, ids.scopes.as_slice())?;
+    let (gone, last) = read_ids(alloc, bytes, text + size, ids.collections.as_slice())?;
     let manifest = with_dropped(manifest, Seq::from_vec(gone_scopes), Seq::from_vec(gone));
     Ok((manifest, text + size + last))
 }
 
 /// Reads the text of a manifest behind its length, and tells how many bytes both have.
-fn read_text(alloc: Global, bytes: &[u8]) -> Result<Option<(Manifest, usize)>, NoMemory>
-    ensures { IfOk result (λ found. MatchOption found (NoText bytes.now) (λ x. TextAt bytes.now x.0 x.1 × (x.0.dropped_scopes ≡ []) × (x.0.dropped_collections ≡ []))) }
+fn read_text(alloc: Global, bytes: &[u8]) -> Result<(Manifest, usize), StateFault>
+    ensures found { IfOk result (λ x. TextAt bytes.now x.0 x.1 × (x.0.dropped_scopes ≡ []) × (x.0.dropped_collections ≡ [])) }
+    ensures breaks { IfErr result (IsTextFault bytes.now) }
 {
-    let (count, rest) = match u32_at(bytes) {
+    let (count, rest) = match count_at(bytes, TEXT_LIMIT) {
         Some(found) => found,
-        None => return Ok(None),
+        None => return Err(StateFault::Bad(0)),
     };
-    let (text, _) = match slice_at(rest, count as usize) {
+    let (text, _) = match slice_at(rest, count) {
         Some(found) => found,
-        None => return Ok(None),
+        None => return Err(StateFault::Bad(NUMBER)),
     };
     match read_sound(alloc, text)? {
-        Some(manifest) => Ok(Some((manifest, NUMBER + text.len()))),
-        None => Ok(None),
+        Some(manifest) => Ok((manifest, NUMBER + count)),
+        None => Err(StateFault::Bad(NUMBER)),
+    }
+}
+
+/// The count at the front, where one up to a limit is there, and the bytes after it.
+fn count_at(bytes: &[u8], limit: usize) -> Option<(usize, &[u8])>
+    requires { limit < 2 ^ 32 }
+    ensures { MatchOption result (NoCount limit bytes.now) (λ x. CountAt limit bytes.now x.0 x.1.now) }
+{
+    match u32_at(bytes) {
+        Some((count, rest)) => {
+            let count = count as usize;
+            if count <= limit { Some((count, rest)) } else { None }
+        }
+        None => None,
     }
 }
 
@@ -149,59 +160,64 @@ fn is_sound(alloc: Global, manifest: &Manifest) -> Result<bool, NoMemory>
     obeys_itself(alloc, manifest, &ids)
 }
 
-/// Reads a count of ids and the ids, which may have been dropped where others are there, and tells how many bytes both
-/// have.
+/// Reads, behind so many bytes, a count of ids and the ids, which may have been dropped where others are there, and tells
+/// how many bytes both have.
 fn read_ids(
     alloc: Global,
     bytes: &[u8],
+    start: usize,
     present: &[u32],
-) -> Result<Option<(Vec<u32>, usize)>, NoMemory>
-    ensures { IfOk result (λ found. MatchOption found (NoIds present.now bytes.now) (λ x. IdsAt present.now bytes.now x.0.items x.1)) }
+) -> Result<(Vec<u32>, usize), StateFault>
+    requires { start ≤ length bytes.now }
+    ensures found { IfOk result (λ x. IdsAt present.now (drop start bytes.now) x.0.items x.1) }
+    ensures breaks { IfErr result (IsIdsFault present.now bytes.now start) }
 {
-    let (count, rest) = match u32_at(bytes) {
+    let (_, part) = bytes.split_at(start);
+    let (count, rest) = match count_at(part, DROPPED_LIMIT) {
         Some(found) => found,
-        None => return Ok(None),
+        None => return Err(StateFault::Bad(start)),
     };
-    let count = count as usize;
-    if count > DROPPED_LIMIT || rest.len() < NUMBER * count {
-        return Ok(None);
-    }
-    let (field, _) = rest.split_at(NUMBER * count);
-    let ids = numbers_in(alloc, field, count)?;
-    if rises(ids.as_slice()) && !share_id(present, ids.as_slice()) {
-        Ok(Some((ids, NUMBER + NUMBER * count)))
-    } else {
-        Ok(None)
-    }
-}
-
-/// The numbers that bytes are, of which there are so many.
-fn numbers_in(alloc: Global, bytes: &[u8], count: usize) -> Result<Vec<u32>, NoMemory>
-    requires { length bytes.now ≡ 4 * count }
-    ensures bytes { IfOk result (λ ids. flat_map (to_be_bytes w32) ids.items ≡ bytes.now) }
-    ensures count { IfOk result (λ ids. length ids.items ≡ count) }
-    ensures fits { IfOk result (λ ids. list_all (λ id. nat_lt id (2 ^ 32)) ids.items ≡ true) }
-{
+    let present = sorted(alloc, present)?;
     let mut ids = Vec::new(alloc);
-    let mut left = bytes;
-    while let Some((id, rest)) = u32_at(left) {
-        ids.push(id)?;
-        left = rest;
+    let mut left = rest;
+    for _ in 0..count {
+        match id_at(left, ids.as_slice(), present.as_slice()) {
+            Some((id, rest)) => {
+                ids.push(id)?;
+                left = rest;
+            }
+            None => return Err(StateFault::Bad(start + NUMBER + NUMBER * ids.len())),
+        }
     }
-    Ok(ids)
+    Ok((ids, NUMBER + NUMBER * count))
 }
 
-/// Whether ids rise.
-fn rises(ids: &[u32]) -> bool
-    ensures { result ≡ are_rising ids.now }
+/// The id at the front, where it may have been dropped with the ones before it, and the bytes after it.
+fn id_at<'b>(bytes: &'b [u8], before: &[u32], present: &[u32]) -> Option<(u32, &'b [u8])>
+    requires before { IsTrue (are_gone present.now before.now) }
+    requires few { length before.now < DROPPED_LIMIT }
+    requires sorted { IsNonDecreasing present.now }
+    ensures { MatchOption result (NoId present.now before.now bytes.now) (λ x. IdAt present.now before.now bytes.now x.0 x.1.now) }
 {
-    let mut left = ids;
-    while let [first, second, ..] = left {
-        if first >= second {
-            return false;
+    match u32_at(bytes) {
+        Some((id, rest)) => {
+            if rises_to(before, id) && !is_among_sorted(present, id) {
+                Some((id, rest))
+            } else {
+                None
+            }
         }
-        let (_, rest) = left.split_at(1);
-        left = rest;
+        None => None,
     }
-    true
+}
+
+/// Whether rising ids still rise with one more.
+fn rises_to(ids: &[u32], id: u32) -> bool
+    requires { IsTrue (are_rising ids.now) }
+    ensures { result ≡ are_rising (ids.now ++ id ∷ []) }
+{
+    match ids.last() {
+        Some(last) => *last < id,
+        None => true,
+    }
 }

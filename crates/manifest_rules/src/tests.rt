@@ -227,10 +227,63 @@ fn the_state_is_read_back(rt: HostRuntime) -> Result<(), Fail> {
     let state = state(alloc)?;
     assert_eq!(rt; state.len(), 4 + 98 + 4 + 8);
     assert_eq!(rt; read(alloc, &state), (2, 114));
-    let cases: [(usize, usize); 4] = [(0, 0), (101, 0), (105, 102), (113, 106)];
+    let cases: [(usize, usize); 10] = [
+        (0, 0),
+        (3, 0),
+        (4, 4),
+        (101, 4),
+        (102, 102),
+        (105, 102),
+        (106, 106),
+        (109, 106),
+        (110, 110),
+        (113, 110),
+    ];
     for (length, place) in cases {
         let (cut, _) = state.split_at(length.min(state.len()));
-        assert_eq!(rt; read(alloc, cut), (0, place));
+        assert_eq!(rt; read(alloc, cut), (0, place), "{length}");
+    }
+    Ok(())
+}
+
+// The first bytes of a state, and numbers in place of those behind them.
+fn with_numbers(
+    alloc: Global,
+    state: &[u8],
+    length: usize,
+    numbers: &[u32],
+) -> Result<Vec<u8>, NoMemory> {
+    let (front, _) = state.split_at(length.min(state.len()));
+    let mut bytes = Vec::from_slice(alloc, front)?;
+    for number in numbers {
+        bytes.extend_from_slice(&number.to_be_bytes())?;
+    }
+    Ok(bytes)
+}
+
+#[test]
+fn the_first_wrong_field_of_a_state_is_told(rt: HostRuntime) -> Result<(), Fail> {
+    let alloc = rt.alloc();
+    let state = state(alloc)?;
+    let cases: [(usize, &[u32], (u64, usize)); 10] = [
+        // the length of the text
+        (0, [1_048_577].as_slice(), (0, 0)),
+        (0, [1_048_576].as_slice(), (0, 4)),
+        // a count
+        (102, [65_537].as_slice(), (0, 102)),
+        (102, [65_536].as_slice(), (0, 106)),
+        (102, [0, 65_537].as_slice(), (0, 106)),
+        // an id that is there
+        (102, [1, 0].as_slice(), (0, 106)),
+        (102, [0, 2, 8, 0].as_slice(), (0, 114)),
+        // ids that don't rise, and ids that do
+        (102, [0, 2, 8, 8].as_slice(), (0, 114)),
+        (102, [0, 3, 8, 10, 9].as_slice(), (0, 118)),
+        (102, [0, 3, 8, 9, 10].as_slice(), (2, 122)),
+    ];
+    for (length, numbers, wanted) in cases {
+        let bytes = with_numbers(alloc, &state, length, numbers)?;
+        assert_eq!(rt; read(alloc, &bytes), wanted, "{length} {numbers:?}");
     }
     Ok(())
 }
