@@ -118,7 +118,7 @@ lost-among x (y ∷ ys) new here = by (among y new) refl (lost-among x ys new he
 
 -- ---- lists that share nothing
 
-none_of : (p : ℕ → Bool) (ws : List ℕ) → list_any p ws ≡ false → (x : ℕ) → among x ws ≡ true → p x ≡ false
+pub none_of : (p : ℕ → Bool) (ws : List ℕ) → list_any p ws ≡ false → (x : ℕ) → among x ws ≡ true → p x ≡ false
 none_of p [] none x here = absurd (true≢false (sym here))
 none_of p (w ∷ ws) none x here =
     let parts = or_parts (p w) (list_any p ws) none in
@@ -127,10 +127,10 @@ none_of p (w ∷ ws) none x here =
       | inr e ↦ none_of p ws parts.1 x e
     ]
 
-or_none : (a b : Bool) → a ≡ false → b ≡ false → (a || b) ≡ false
+pub or_none : (a b : Bool) → a ≡ false → b ≡ false → (a || b) ≡ false
 or_none a b p q = ap (λ c. c || b) p ∙ q
 
-from_none : (p : ℕ → Bool) (ws : List ℕ) → ((x : ℕ) → among x ws ≡ true → p x ≡ false) → list_any p ws ≡ false
+pub from_none : (p : ℕ → Bool) (ws : List ℕ) → ((x : ℕ) → among x ws ≡ true → p x ≡ false) → list_any p ws ≡ false
 from_none p [] none = refl
 from_none p (w ∷ ws) none =
     or_none (p w) (list_any p ws) (none w (ap (λ b. b || among w ws) (eq-eqb w w refl)))

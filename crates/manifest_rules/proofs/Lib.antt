@@ -17,3 +17,5 @@ pub mod Compact
 pub mod ReadBack
 pub mod Ascii
 pub mod States
+pub mod Faults
+pub mod Sorted

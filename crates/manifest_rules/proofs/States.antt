@@ -12,7 +12,7 @@ use Rattle.manifest_rules.specs.Catalog.{Catalog, scope_ids, collection_ids}
 use Rattle.manifest_rules.specs.Text.{text_of}
 use Rattle.manifest_rules.specs.Form.{catalog_in}
 use Rattle.manifest_rules.specs.Laws.{without_dropped}
-use Rattle.manifest_rules.specs.State.{are_rising, is_sound, are_gone, is_kept, ids_bytes, text_bytes, state_of, NoText, TextAt, NoIds, IdsAt, IsAt, Breaks, at_collections}
+use Rattle.manifest_rules.specs.State.{are_rising, is_sound, are_gone, is_kept, ids_bytes, text_bytes, state_of, TextAt, IdsAt, IsAt}
 use Rattle.manifest_rules.proofs.Gone.{share}
 use Rattle.manifest_rules.proofs.Runs.{gone_parts, kept_parts}
 use Rattle.manifest_rules.proofs.ReadBack.{sound_parts, sound_read_back}
@@ -48,7 +48,7 @@ counted text = to_be_bytes w32 (length text) ++ text
 pub counted_again : (text rest : List ℕ) → length text < 2 ^ 32 → number_at w32 (counted text ++ rest) ≡ Some (length text, text ++ rest)
 counted_again text rest short = ap (number_at w32) (append_assoc (to_be_bytes w32 (length text)) text rest) ∙ number_again w32 (2 ^ 32) wide32 (length text) (text ++ rest) short
 
-pair_is : {A B : Type 0} (a c : A) (b d : B) → Some (let p : A × B = (a, b) in p) ≡ Some (let p : A × B = (c, d) in p) → (a ≡ c) × (b ≡ d)
+pub pair_is : {A B : Type 0} (a c : A) (b d : B) → Some (let p : A × B = (a, b) in p) ≡ Some (let p : A × B = (c, d) in p) → (a ≡ c) × (b ≡ d)
 pair_is {A} {B} a c b d e = let same = some_is (let p : A × B = (a, b) in p) (let p : A × B = (c, d) in p) e in (ap (λ p. p.0) same, ap (λ p. p.1) same)
 
 same_counted : (a b r s : List ℕ) → length a < 2 ^ 32 → length b < 2 ^ 32 → counted a ++ r ≡ counted b ++ s → Same a b r s
@@ -110,65 +110,19 @@ same_ids present also xs ys r s h k e =
     let same = same_front (flat xs) r (flat ys) s p.1 wide in
     record { front = same_flat xs ys (gone_parts present xs h).fits (gone_parts also ys k).fits count same.front; rest = same.rest }
 
--- ---- numbers one after another
+-- ---- one more id
 
-pub record Numbers (bytes ids left : List ℕ) : Type 0 where
-  pub whole : bytes ≡ flat ids ++ left
-  pub fits : below ids ≡ true
-  pub bytes_left : IsBytes left
-
-pub no_numbers : (bytes : List ℕ) → IsBytes bytes → Numbers bytes [] bytes
-no_numbers bytes h = record { whole = refl; fits = refl; bytes_left = h }
-
-flat-push : (ids : List ℕ) (id : ℕ) (rest : List ℕ) → flat ids ++ (to_be_bytes w32 id ++ rest) ≡ flat (ids ++ id ∷ []) ++ rest
+pub flat-push : (ids : List ℕ) (id : ℕ) (rest : List ℕ) → flat ids ++ (to_be_bytes w32 id ++ rest) ≡ flat (ids ++ id ∷ []) ++ rest
 flat-push [] id rest = ap (λ t. t ++ rest) (sym (append-nil (to_be_bytes w32 id)))
 flat-push (x ∷ xs) id rest =
     append_assoc (to_be_bytes w32 x) (flat xs) (to_be_bytes w32 id ++ rest) ∙ ap (λ t. to_be_bytes w32 x ++ t) (flat-push xs id rest)
     ∙ sym (append_assoc (to_be_bytes w32 x) (flat (xs ++ id ∷ [])) rest)
 
-below-push : (ids : List ℕ) (id : ℕ) → below ids ≡ true → id < 2 ^ 32 → below (ids ++ id ∷ []) ≡ true
+pub below-push : (ids : List ℕ) (id : ℕ) → below ids ≡ true → id < 2 ^ 32 → below (ids ++ id ∷ []) ≡ true
 below-push [] id h small = and_from (nat_lt id (2 ^ 32)) true (lt-ltb id (2 ^ 32) small) refl
 below-push (x ∷ xs) id h small = let p = and_parts (nat_lt x (2 ^ 32)) (below xs) h in and_from (nat_lt x (2 ^ 32)) (below (xs ++ id ∷ [])) p.0 (below-push xs id p.1 small)
 
-pub one_number : (bytes ids left : List ℕ) (id : ℕ) (rest : List ℕ) → Numbers bytes ids left → number_at w32 left ≡ Some (id, rest) → Numbers bytes (ids ++ id ∷ []) rest
-one_number bytes ids left id rest so e =
-    let t = number_takes w32 (2 ^ 32) wide32 left id rest so.bytes_left e in
-    record {
-      whole = so.whole ∙ ap (λ u. flat ids ++ u) t.0.parts ∙ flat-push ids id rest;
-      fits = below-push ids id so.fits t.1;
-      bytes_left = t.0.rest_fits;
-    }
-
-pub shorter : (left : List ℕ) (id : ℕ) (rest : List ℕ) → number_at w32 left ≡ Some (id, rest) → length rest < length left
-shorter left id rest e = let whole = (number_size w32).whole left id rest e in omega arith
-
-pub record AllNumbers (bytes ids : List ℕ) (count : ℕ) : Type 0 where
-  pub bytes_are : flat ids ≡ bytes
-  pub count_is : length ids ≡ count
-  pub fits : below ids ≡ true
-
-empty : (xs : List ℕ) → length xs ≡ 0 → xs ≡ []
-empty [] h = refl
-empty (x ∷ xs) h = absurd (omega arith)
-
-pub all_numbers : (bytes ids left : List ℕ) (count : ℕ) → Numbers bytes ids left → length bytes ≡ 4 * count → number_at w32 left ≡ None → AllNumbers bytes ids count
-all_numbers bytes ids left count so len e =
-    let few = (number_size w32).short left e in
-    let all = ap length so.whole ∙ length-append (flat ids) left in
-    let wide = flat-length ids in
-    let none : length left ≡ 0 = omega (arith, few, all, wide, len) in
-    record {
-      bytes_are = sym (so.whole ∙ ap (λ t. flat ids ++ t) (empty left none) ∙ append-nil (flat ids));
-      count_is = omega (arith, all, wide, len, none);
-      fits = so.fits;
-    }
-
 -- ---- the text of a manifest
-
-pub short_rises : (ids : List ℕ) → length ids < 2 → true ≡ are_rising ids
-short_rises [] h = refl
-short_rises (x ∷ []) h = refl
-short_rises (x ∷ y ∷ more) h = absurd (omega arith)
 
 pub no_manifest : (text : List ℕ) → (IsUtf8 text → catalog_in text ≡ None) → (m : Catalog) → is_sound m ≡ true → text ≡ text_of m → ⊥
 no_manifest text none m h e =
@@ -186,99 +140,20 @@ other_manifest text n found bad m h e =
       | inr unlike ↦ unlike (ap text_of same ∙ sym e)
     ]
 
-pub text_found : (bytes rest text after : List ℕ) (count : ℕ) (m : Catalog) → IsBytes bytes → number_at w32 bytes ≡ Some (count, rest) → bytes_at count rest ≡ Some (text, after)
-    → is_sound m ≡ true → text_of m ≡ text → TextAt bytes m (4 + length text)
-text_found bytes rest text after count m fits number field sound is =
-    let n = number_takes w32 (2 ^ 32) wide32 bytes count rest fits number in
-    let t = bytes_take count rest text after n.0.rest_fits field in
-    let long = t.1 in
-    let bytes_are : text_bytes m ≡ counted text = ap counted is in
-    let head : to_be_bytes w32 count ≡ to_be_bytes w32 (length text) = ap (to_be_bytes w32) (sym long) in
-    let whole : bytes ≡ text_bytes m ++ after =
-    n.0.parts ∙ ap₂ (λ a b. a ++ b) head t.0.parts ∙ sym (append_assoc (to_be_bytes w32 (length text)) text after) ∙ ap (λ a. a ++ after) (sym bytes_are) in
-    let size : 4 + length text ≡ length (text_bytes m) = (let all = length-append (to_be_bytes w32 (length text)) text in let front = wide32.len (length text) in let same = ap length bytes_are in omega (arith, all, front, same)) in
-    record { sound = sound; front = front_and_rest bytes (text_bytes m) after (4 + length text) whole size; len = size }
-
-pub text_none : (bytes rest text after : List ℕ) (count : ℕ) → number_at w32 bytes ≡ Some (count, rest) → bytes_at count rest ≡ Some (text, after)
-    → ((m : Catalog) → is_sound m ≡ true → text ≡ text_of m → ⊥) → NoText bytes
-text_none bytes rest text after count number field none m more h e =
-    let p = pair_is count (length (text_of m)) rest (text_of m ++ more) (sym number ∙ ap (number_at w32) e ∙ counted_again (text_of m) more (sound_short m h)) in
-    let q = pair_is text (text_of m) after more (sym field ∙ ap₂ bytes_at p.0 p.1 ∙ bytes_again (text_of m) more) in
-    none m h q.0
-
-pub text_cut : (bytes rest : List ℕ) (count : ℕ) → number_at w32 bytes ≡ Some (count, rest) → bytes_at count rest ≡ None → NoText bytes
-text_cut bytes rest count number field m more h e =
-    let p = pair_is count (length (text_of m)) rest (text_of m ++ more) (sym number ∙ ap (number_at w32) e ∙ counted_again (text_of m) more (sound_short m h)) in
-    let clash : None ≡ Some (let q : List ℕ × List ℕ = (text_of m, more) in q) = sym field ∙ ap₂ bytes_at p.0 p.1 ∙ bytes_again (text_of m) more in
-    absurd (cc)
-
-pub text_missing : (bytes : List ℕ) → number_at w32 bytes ≡ None → NoText bytes
-text_missing bytes number m more h e =
-    let clash : None ≡ Some (let q : ℕ × List ℕ = (length (text_of m), text_of m ++ more) in q) = sym number ∙ ap (number_at w32) e ∙ counted_again (text_of m) more (sound_short m h) in
-    absurd (cc)
-
--- ---- ids
-
-pub ids_missing : (present bytes : List ℕ) → number_at w32 bytes ≡ None → NoIds present bytes
-ids_missing present bytes number gone more h e =
-    let clash : None ≡ Some (let q : ℕ × List ℕ = (length gone, flat gone ++ more) in q) = sym number ∙ ap (number_at w32) e ∙ ids_again gone more (gone_short present gone h) in
-    absurd (cc)
-
-pub ids_cut : (present bytes rest : List ℕ) (count : ℕ) → number_at w32 bytes ≡ Some (count, rest) → (DROPPED_LIMIT < count) ⊎ (length rest < 4 * count) → NoIds present bytes
-ids_cut present bytes rest count number cut gone more h e =
-    let p = pair_is count (length gone) rest (flat gone ++ more) (sym number ∙ ap (number_at w32) e ∙ ids_again gone more (gone_short present gone h)) in
-    let few = leb-true (length gone) DROPPED_LIMIT (gone_parts present gone h).few in
-    let size = ap length p.1 ∙ length-append (flat gone) more in
-    let wide = flat-length gone in
-    let count_is = p.0 in
-    elim cut [
-      | inl many ↦ absurd (omega arith)
-      | inr short ↦ absurd (omega arith)
-    ]
-
-pub ids_none : (present bytes rest field ids : List ℕ) (count : ℕ) → number_at w32 bytes ≡ Some (count, rest) → field ≡ take (4 * count) rest → AllNumbers field ids count
-    → (are_rising ids ≡ false) ⊎ (share present ids ≡ true) → NoIds present bytes
-ids_none present bytes rest field ids count number part all bad gone more h e =
-    let p = pair_is count (length gone) rest (flat gone ++ more) (sym number ∙ ap (number_at w32) e ∙ ids_again gone more (gone_short present gone h)) in
-    let parts = gone_parts present gone h in
-    let size : length (flat gone) ≡ 4 * count = flat-length gone ∙ ap (λ n. 4 * n) (sym p.0) in
-    let same : flat ids ≡ flat gone = all.bytes_are ∙ part ∙ ap (take (4 * count)) p.1 ∙ take_at (flat gone) more (4 * count) size in
-    let is : ids ≡ gone = same_flat ids gone all.fits parts.fits (all.count_is ∙ p.0) same in
-    elim bad [
-      | inl falls ↦ true≢false (sym parts.rising ∙ ap are_rising (sym is) ∙ falls)
-      | inr shared ↦ true≢false (sym shared ∙ ap (share present) is ∙ parts.none)
-    ]
-
-pub ids_found : (present bytes rest field ids : List ℕ) (count : ℕ) → IsBytes bytes → number_at w32 bytes ≡ Some (count, rest) → field ≡ take (4 * count) rest → 4 * count ≤ length rest → count ≤ DROPPED_LIMIT
-    → AllNumbers field ids count → are_rising ids ≡ true → share present ids ≡ false → IdsAt present bytes ids (4 + 4 * count)
-ids_found present bytes rest field ids count fits number part long few all rises apart =
-    let n = number_takes w32 (2 ^ 32) wide32 bytes count rest fits number in
-    let head : to_be_bytes w32 count ≡ to_be_bytes w32 (length ids) = ap (to_be_bytes w32) (sym all.count_is) in
-    let body : rest ≡ flat ids ++ drop (4 * count) rest = sym (take-append-drop (4 * count) rest) ∙ ap (λ t. t ++ drop (4 * count) rest) (sym (all.bytes_are ∙ part)) in
-    let whole : bytes ≡ ids_bytes ids ++ drop (4 * count) rest =
-    n.0.parts ∙ ap₂ (λ a b. a ++ b) head body ∙ sym (append_assoc (to_be_bytes w32 (length ids)) (flat ids) (drop (4 * count) rest)) in
-    let size : 4 + 4 * count ≡ length (ids_bytes ids) = (let total = length-append (to_be_bytes w32 (length ids)) (flat ids) in let front = wide32.len (length ids) in let wide = flat-length ids in let count_is = all.count_is in omega (arith, total, front, wide, count_is)) in
-    let short : length ids ≤ DROPPED_LIMIT = subst (λ k. k ≤ DROPPED_LIMIT) (sym all.count_is) few in
-    record {
-      may = and_from _ _ (and_from _ _ (and_from _ _ all.fits rises) (le-leb (length ids) DROPPED_LIMIT short)) (ap not apart);
-      front = front_and_rest bytes (ids_bytes ids) (drop (4 * count) rest) (4 + 4 * count) whole size;
-      len = size;
-    }
-
 -- ---- a state
 
 abbrev pub with_gone : Catalog → List ℕ → List ℕ → Catalog
 with_gone m a b = record { uid = m.uid; scopes = m.scopes; dropped_scopes = a; dropped_collections = b }
 
-pub state_found : (bytes : List ℕ) (m : Catalog) (text size last : ℕ) (a b : List ℕ) → TextAt bytes m text → IdsAt (scope_ids m.scopes) (drop text bytes) a size → IdsAt (collection_ids m.scopes) (drop size (drop text bytes)) b last
+pub state_found : (bytes : List ℕ) (m : Catalog) (text size last : ℕ) (a b : List ℕ) → TextAt bytes m text → IdsAt (scope_ids m.scopes) (drop text bytes) a size → IdsAt (collection_ids m.scopes) (drop (text + size) bytes) b last
     → IsAt bytes (with_gone m a b) (text + size + last)
 state_found bytes m text size last a b t i j =
     let first = text_bytes m in
     let second = ids_bytes a in
     let third = ids_bytes b in
-    let after = drop last (drop size (drop text bytes)) in
+    let after = drop last (drop (text + size) bytes) in
     let whole : bytes ≡ (first ++ second ++ third) ++ after =
-    t.front ∙ ap (λ u. first ++ u) (i.front ∙ ap (λ u. second ++ u) j.front)
+    t.front ∙ ap (λ u. first ++ u) (i.front ∙ ap (λ u. second ++ u) (drop-drop size text bytes ∙ j.front))
     ∙ sym (append_assoc first second (third ++ after)) ∙ sym (append_assoc (first ++ second) third after) in
     let len : text + size + last ≡ length (first ++ second ++ third) =
     (let a1 = length-append (first ++ second) third in let a2 = length-append first second in let l1 = t.len in let l2 = i.len in let l3 = j.len in omega (arith, a1, a2, l1, l2, l3)) in
@@ -289,44 +164,14 @@ state_found bytes m text size last a b t i j =
     }
 
 -- the state of a kept manifest, part by part
-parted : (m : Catalog) (rest : List ℕ) → state_of m ++ rest ≡ text_bytes m ++ (ids_bytes m.dropped_scopes ++ (ids_bytes m.dropped_collections ++ rest))
+pub parted : (m : Catalog) (rest : List ℕ) → state_of m ++ rest ≡ text_bytes m ++ (ids_bytes m.dropped_scopes ++ (ids_bytes m.dropped_collections ++ rest))
 parted m rest = append_assoc (text_bytes m ++ ids_bytes m.dropped_scopes) (ids_bytes m.dropped_collections) rest ∙ append_assoc (text_bytes m) (ids_bytes m.dropped_scopes) (ids_bytes m.dropped_collections ++ rest)
 
 pub kept_sound : (m : Catalog) → is_kept m ≡ true → is_sound m ≡ true
 kept_sound m h = let first = and_parts (is_sound m && are_gone (scope_ids m.scopes) m.dropped_scopes) (are_gone (collection_ids m.scopes) m.dropped_collections) h in (and_parts (is_sound m) (are_gone (scope_ids m.scopes) m.dropped_scopes) first.0).0
 
-abbrev pub NoState : List ℕ → Type 0
-NoState bytes = (m : Catalog) (rest : List ℕ) → is_kept m ≡ true → bytes ≡ state_of m ++ rest → ⊥
-
-pub no_text : (bytes : List ℕ) → NoText bytes → NoState bytes
-no_text bytes none m rest h e = none m (ids_bytes m.dropped_scopes ++ (ids_bytes m.dropped_collections ++ rest)) (kept_sound m h) (e ∙ parted m rest)
-
--- the scopes of the manifest whose text is at the front
-pub no_scopes : (bytes : List ℕ) (m : Catalog) (text : ℕ) → TextAt bytes m text → NoIds (scope_ids m.scopes) (drop text bytes) → NoState bytes
-no_scopes bytes m text t none n rest h e =
-    let kept = kept_parts n h in
-    let after = ids_bytes n.dropped_scopes ++ (ids_bytes n.dropped_collections ++ rest) in
-    let same = same_text m n (drop text bytes) after t.sound (kept_sound n h) (sym t.front ∙ e ∙ parted n rest) in
-    let ids : scope_ids m.scopes ≡ scope_ids n.scopes = ap (λ k. scope_ids k.scopes) same.bare in
-    none n.dropped_scopes (ids_bytes n.dropped_collections ++ rest) (subst (λ l. are_gone l n.dropped_scopes ≡ true) (sym ids) kept.gone_scopes) same.rest
-
-pub no_collections : (bytes : List ℕ) (m : Catalog) (text size : ℕ) (gone : List ℕ) → TextAt bytes m text → IdsAt (scope_ids m.scopes) (drop text bytes) gone size → NoIds (collection_ids m.scopes) (drop size (drop text bytes)) → NoState bytes
-no_collections bytes m text size gone t i none n rest h e =
-    let kept = kept_parts n h in
-    let after = ids_bytes n.dropped_scopes ++ (ids_bytes n.dropped_collections ++ rest) in
-    let same = same_text m n (drop text bytes) after t.sound (kept_sound n h) (sym t.front ∙ e ∙ parted n rest) in
-    let ids : collection_ids m.scopes ≡ collection_ids n.scopes = ap (λ k. collection_ids k.scopes) same.bare in
-    let next = same_ids (scope_ids m.scopes) (scope_ids n.scopes) gone n.dropped_scopes (drop size (drop text bytes)) (ids_bytes n.dropped_collections ++ rest) i.may kept.gone_scopes (sym i.front ∙ same.rest) in
-    none n.dropped_collections rest (subst (λ l. are_gone l n.dropped_collections ≡ true) (sym ids) kept.gone_collections) next.rest
-
-pub breaks_at_collections : (bytes : List ℕ) (m : Catalog) (text size : ℕ) (gone : List ℕ) → TextAt bytes m text → IdsAt (scope_ids m.scopes) (drop text bytes) gone size → NoIds (collection_ids m.scopes) (drop size (drop text bytes)) → Breaks bytes (text + size)
-breaks_at_collections bytes m text size gone t i none = at_collections m text size gone t i refl (subst (NoIds (collection_ids m.scopes)) (drop-drop size text bytes) none)
-
 pub state_whole : (m : Catalog) (old first second third now : List ℕ) → first ≡ [] ++ text_bytes m → second ≡ first ++ ids_bytes m.dropped_scopes → third ≡ second ++ ids_bytes m.dropped_collections → now ≡ old ++ third → now ≡ old ++ state_of m
 state_whole m old first second third now p q r e = e ∙ ap (λ t. old ++ t) (r ∙ ap (λ t. t ++ ids_bytes m.dropped_collections) (q ∙ ap (λ t. t ++ ids_bytes m.dropped_scopes) p))
-
-pub numbers_same : (bytes left ids also : List ℕ) → also ≡ ids → Numbers bytes ids left → Numbers bytes also left
-numbers_same bytes left ids also e h = subst (λ l. Numbers bytes l left) (sym e) h
 
 -- bytes begin with one kept manifest's state at most
 pub same_state : (m n : Catalog) (rest more : List ℕ) → is_kept m ≡ true → is_kept n ≡ true → state_of m ++ rest ≡ state_of n ++ more → m ≡ n

@@ -72,7 +72,8 @@ mod writing;
 
 pub use applying::{Dropped, apply};
 pub use laws::{
-    equal_changes_nothing, kept_stays_kept, no_id_comes_back, one_broken_place, state_is_read_back, text_is_read_back,
+    equal_changes_nothing, kept_stays_kept, no_id_comes_back, one_broken_place, state_is_read_back,
+    text_is_read_back,
 };
 pub use manifest::{Manifest, dropped_collections, dropped_scopes, first, has, max_ttl, uid};
 pub use paths::{collection_of, scope_of};

@@ -121,7 +121,11 @@ fn count_at(bytes: &[u8], limit: usize) -> Option<(usize, &[u8])>
     match u32_at(bytes) {
         Some((count, rest)) => {
             let count = count as usize;
-            if count <= limit { Some((count, rest)) } else { None }
+            if count <= limit {
+                Some((count, rest))
+            } else {
+                None
+            }
         }
         None => None,
     }

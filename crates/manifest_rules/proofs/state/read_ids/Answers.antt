@@ -1,38 +1,31 @@
-use Rattle.std.proofs.Common.{◌≡◌, ◌<◌, ◌*◌, ◌⊎◌, inl, inr, true, false, length, Some, option_map, sym, ap, ◌∙◌, arith}
-use Rattle.std.specs.Int.{w32}
-use Rattle.kv_edge.specs.Fields.{IsBytes, number_at}
+use Rattle.std.proofs.Common.{◌≡◌, ◌+◌, ◌*◌, ◌<◌, List, [], ◌++◌, ◌∷◌, length, drop, sym, ap, ◌∙◌, subst, refl, arith}
+use Rattle.std.specs.List.Sorted.{IsPermutation}
 use Rattle.manifest_rules.specs.declared.types.TheConstants.{DROPPED_LIMIT}
-use Rattle.manifest_rules.specs.State.{are_rising}
-use Rattle.manifest_rules.proofs.Gone.{share}
-use Rattle.manifest_rules.proofs.States.{AllNumbers, ids_cut, ids_none, ids_found}
+use Rattle.manifest_rules.specs.State.{CountAt, NoId}
+use Rattle.manifest_rules.proofs.Faults.{IdsRead, ids_begin, ids_more, ids_length, ids_break, ids_all}
 use Rattle.manifest_rules.proofs.state.read_ids.Goals as goal
-use Rattle.manifest_rules.proofs.state.read_ids.Goals.{then-count-gt-DROPPED_LIMIT-via-then-count-gt-DROPPED_LIMIT, then-count-gt-DROPPED_LIMIT-via-else-count-gt-DROPPED_LIMIT+then-rest-count, else-rises-via-then-rises+else-not-share_id, else-rises-via-else-rises}
 
-pub returns-then-count-gt-DROPPED_LIMIT : goal.returns-then-count-gt-DROPPED_LIMIT
-returns-then-count-gt-DROPPED_LIMIT c =
-    let number : number_at w32 c.args.bytes.now ≡ Some (c.in-Some.found.0, c.in-Some.found.1.now) = sym c.u32_at.ensures ∙ ap (option_map (λ x. (x.0, x.1.now))) c.in-Some.is in
-    let cut : (DROPPED_LIMIT < c.in-Some.found.0) ⊎ (length c.in-Some.found.1.now < 4 * c.in-Some.found.0) = elim c.then-count-gt-DROPPED_LIMIT.branch [
-      | then-count-gt-DROPPED_LIMIT-via-then-count-gt-DROPPED_LIMIT w ↦ inl (omega (arith, w.if-count-gt-DROPPED_LIMIT.true))
-      | then-count-gt-DROPPED_LIMIT-via-else-count-gt-DROPPED_LIMIT+then-rest-count w ↦ inr (omega (arith, w.if-rest-count.true))
-    ] in
-    ids_cut c.args.present.now c.args.bytes.now c.in-Some.found.1.now c.in-Some.found.0 number cut
+pub loop-init : goal.loop-init
+loop-init c =
+    let part = drop c.args.start c.args.bytes.now in
+    let at : CountAt DROPPED_LIMIT part c.in-Some.found.0 c.in-Some.found.1.now = subst (λ b. CountAt DROPPED_LIMIT b c.in-Some.found.0 c.in-Some.found.1.now) c.split_at.ensures.back c.in-Some.ensures in
+    record {
+      read = subst (λ l. IdsRead c.in_ok-present.present.items part c.in-Some.found.0 l c.in-Some.found.1.now) (sym c.new-ids.ensures.items) (ids_begin c.in_ok-present.present.items part c.in-Some.found.1.now c.in-Some.found.0 at);
+      counted = ap length c.new-ids.ensures.items;
+    }
 
-pub returns-then-not-share_id : goal.returns-then-not-share_id
-returns-then-not-share_id c =
-    let number : number_at w32 c.args.bytes.now ≡ Some (c.in-Some.found.0, c.in-Some.found.1.now) = sym c.u32_at.ensures ∙ ap (option_map (λ x. (x.0, x.1.now))) c.in-Some.is in
-    let fits : IsBytes c.args.bytes.now = λ i. omega (arith, c.type_inv.bytes i) in
-    let all : AllNumbers c.split_at.result.0.now c.in_ok-ids.ids.items c.in-Some.found.0 = record { bytes_are = c.in_ok-ids.ensures.bytes; count_is = c.in_ok-ids.ensures.count; fits = c.in_ok-ids.ensures.fits } in
-    let rising : are_rising c.in_ok-ids.ids.items ≡ true = sym (c.rises.ensures ∙ ap are_rising c.as_slice.ensures.value) ∙ c.if-rises.true in
-    let apart : share c.args.present.now c.in_ok-ids.ids.items ≡ false = sym (c.share_id.ensures ∙ ap (share c.args.present.now) c.as_slice-then-rises.ensures.value) ∙ c.if-not-share_id.true in
-    ids_found c.args.present.now c.args.bytes.now c.in-Some.found.1.now c.split_at.result.0.now c.in_ok-ids.ids.items c.in-Some.found.0 fits number c.split_at.ensures.front
-    (omega (arith, c.if-rest-count.false)) (omega (arith, c.if-count-gt-DROPPED_LIMIT.false)) all rising apart
+pub returns-in-None-id_at-clause-breaks : goal.returns-in-None-id_at-clause-breaks
+returns-in-None-id_at-clause-breaks c =
+    let part = drop c.args.start c.args.bytes.now in
+    let present = c.in_ok-present.present.items in
+    let ids = c.loop.ids.items in
+    let none : NoId present ids c.loop.left.now = subst (λ l. NoId l ids c.loop.left.now) c.as_slice-in-loop.ensures.value (subst (λ l. NoId c.as_slice-in-loop.result.now l c.loop.left.now) c.as_slice.ensures.value c.in-None-id_at.ensures) in
+    let less : length ids < c.in-Some.found.0 = omega (arith, c.loop.invariant.counted, c.loop-test.true) in
+    let size : c.args.start + 4 + 4 * c.len.result ≡ c.args.start + (4 + 4 * length ids) = omega (arith, c.len.ensures) in
+    (4 + 4 * length ids, size, ids_break c.args.present.now present part ids c.loop.left.now c.in-Some.found.0 c.in_ok-present.ensures.same c.loop.invariant.read less none)
 
-pub returns-else-rises : goal.returns-else-rises
-returns-else-rises c =
-    let number : number_at w32 c.args.bytes.now ≡ Some (c.in-Some.found.0, c.in-Some.found.1.now) = sym c.u32_at.ensures ∙ ap (option_map (λ x. (x.0, x.1.now))) c.in-Some.is in
-    let all : AllNumbers c.split_at.result.0.now c.in_ok-ids.ids.items c.in-Some.found.0 = record { bytes_are = c.in_ok-ids.ensures.bytes; count_is = c.in_ok-ids.ensures.count; fits = c.in_ok-ids.ensures.fits } in
-    let bad : (are_rising c.in_ok-ids.ids.items ≡ false) ⊎ (share c.args.present.now c.in_ok-ids.ids.items ≡ true) = elim c.else-rises.branch [
-      | else-rises-via-then-rises+else-not-share_id w ↦ inr (sym (w.share_id.ensures ∙ ap (share c.args.present.now) w.as_slice-then-rises.ensures.value) ∙ w.if-not-share_id.false)
-      | else-rises-via-else-rises w ↦ inl (sym (c.rises.ensures ∙ ap are_rising c.as_slice.ensures.value) ∙ w.if-rises.false)
-    ] in
-    ids_none c.args.present.now c.args.bytes.now c.in-Some.found.1.now c.split_at.result.0.now c.in_ok-ids.ids.items c.in-Some.found.0 number c.split_at.ensures.front all bad
+pub returns-clause-found : goal.returns-clause-found
+returns-clause-found c =
+    let part = drop c.args.start c.args.bytes.now in
+    let all : length c.loop.ids.items ≡ c.in-Some.found.0 = omega (arith, c.loop.invariant.counted, c.loop-test.false) in
+    ids_all c.args.present.now c.in_ok-present.present.items part c.loop.ids.items c.loop.left.now c.in-Some.found.0 c.in_ok-present.ensures.same c.loop.invariant.read all
