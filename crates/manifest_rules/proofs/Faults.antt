@@ -1,11 +1,10 @@
 -- Where bytes break the layout of a state.
-use Rattle.std.proofs.Common.{◌≡◌, ℕ, ◌+◌, ◌*◌, ◌^◌, ◌<◌, ◌≤◌, Bool, true, false, nat_eq, nat_lt, nat_le, ◌&&◌, ◌||◌, not, List, [], ◌∷◌, ◌++◌, length, drop, get_or, ◌⊎◌, inl, inr, Some, None, refl, sym, ap, ap₂, ◌∙◌, subst, arith, append_assoc, append-nil, true≢false, le-leb, eq-eqb}
+use Rattle.std.proofs.Common.{◌≡◌, ℕ, ◌+◌, ◌*◌, ◌^◌, ◌<◌, ◌≤◌, Bool, true, false, nat_eq, nat_lt, nat_le, ◌&&◌, ◌||◌, not, List, [], ◌∷◌, ◌++◌, length, drop, ◌⊎◌, inl, inr, Some, None, refl, sym, ap, ap₂, ◌∙◌, subst, arith, append_assoc, append-nil, true≢false, le-leb, eq-eqb}
 use Rattle.std.proofs.lemmas.Bool.{and_parts, and_from, or_parts, leb-true, ltb-true, eqb-true, cases_lt}
 use Rattle.std.proofs.lemmas.List.{length-append, length-drop, drop-drop}
 use Rattle.std.proofs.lemmas.List.Folds.{list_all-append, list_any-append}
 use Rattle.std.proofs.lemmas.List.Sorted.{list_any-IsPermutation}
 use Rattle.std.specs.Int.{w32, to_be_bytes}
-use Rattle.std.specs.List.{list_all}
 use Rattle.std.specs.List.Sorted.{IsPermutation}
 use Rattle.kv_edge.specs.Fields.{IsBytes, number_at, bytes_at}
 use Rattle.kv_edge.proofs.Fields.{wide32, number_takes, number_again, bytes_take, bytes_again}
@@ -14,23 +13,13 @@ use Rattle.manifest_rules.specs.declared.state.StateFault.TheVariants as fault
 use Rattle.manifest_rules.specs.declared.types.TheConstants.{DROPPED_LIMIT, TEXT_LIMIT}
 use Rattle.manifest_rules.specs.Catalog.{Catalog, scope_ids, collection_ids}
 use Rattle.manifest_rules.specs.Text.{text_of}
-use Rattle.manifest_rules.specs.State.{are_rising, is_sound, are_gone, is_kept, ids_bytes, text_bytes, state_of, IsAt, TextAt, NoCount, CountAt, NoId, IdAt, IdsAt, TextBreaks, at_length, at_text, IdsBreak, at_count, at_id, IsTextFault, IsIdsFault, Breaks, in_text, in_scopes, in_collections, IsNoState}
+use Rattle.manifest_rules.specs.State.{are_rising, is_sound, are_gone, is_kept, ids_bytes, text_bytes, state_of, IsAt, TextAt, CountAt, NoId, IdAt, IdsAt, TextBreaks, at_length, at_text, IdsBreak, at_count, at_id, IsTextFault, IsIdsFault, Breaks, in_text, in_scopes, in_collections, IsNoState}
 use Rattle.manifest_rules.proofs.Gone.{among, share, none_of, from_none, or_none}
 use Rattle.manifest_rules.proofs.Runs.{gone_parts, kept_parts}
 use Rattle.manifest_rules.proofs.ReadBack.{sound_parts}
-use Rattle.manifest_rules.proofs.States.{front_and_rest, pair_is, sound_short, same_text, flat, below, flat-length, flat-push, below-push, gone_short, same_ids, parted, kept_sound}
+use Rattle.manifest_rules.proofs.States.{front_and_rest, pair_is, sound_short, same_text, flat, below, flat-length, below-push, gone_short, same_ids, parted, kept_sound}
 
 -- ---- counts
-
-pub count_missing : (limit : ℕ) (bytes : List ℕ) → limit < 2 ^ 32 → number_at w32 bytes ≡ None → NoCount limit bytes
-count_missing limit bytes low none count rest few e =
-    let clash : None ≡ Some (let q : ℕ × List ℕ = (count, rest) in q) = sym none ∙ ap (number_at w32) e ∙ number_again w32 (2 ^ 32) wide32 count rest (omega arith) in
-    absurd (cc)
-
-pub count_over : (limit : ℕ) (bytes : List ℕ) (number : ℕ) (after : List ℕ) → limit < 2 ^ 32 → number_at w32 bytes ≡ Some (number, after) → limit < number → NoCount limit bytes
-count_over limit bytes number after low found over count rest few e =
-    let p = pair_is number count after rest (sym found ∙ ap (number_at w32) e ∙ number_again w32 (2 ^ 32) wide32 count rest (omega arith)) in
-    absurd (omega (arith, p.0))
 
 pub count_found : (limit : ℕ) (bytes : List ℕ) (count : ℕ) (rest : List ℕ) → IsBytes bytes → number_at w32 bytes ≡ Some (count, rest) → count ≤ limit → CountAt limit bytes count rest
 count_found limit bytes count rest fits found few = record { few = few; front = (number_takes w32 (2 ^ 32) wide32 bytes count rest fits found).0.parts }
@@ -129,11 +118,6 @@ share_push present gone id apart none =
 
 -- ---- the next id
 
-pub id_missing : (present before bytes : List ℕ) → number_at w32 bytes ≡ None → NoId present before bytes
-id_missing present before bytes none id more h e =
-    let clash : None ≡ Some (let q : ℕ × List ℕ = (id, more) in q) = sym none ∙ ap (number_at w32) e ∙ number_again w32 (2 ^ 32) wide32 id more (id_fits present before [] id h) in
-    absurd (cc)
-
 pub id_refused : (present before bytes : List ℕ) (id : ℕ) (rest : List ℕ) → number_at w32 bytes ≡ Some (id, rest) → (are_rising (before ++ id ∷ []) ≡ false) ⊎ (among id present ≡ true) → NoId present before bytes
 id_refused present before bytes id rest found bad other more h e =
     let p = pair_is id other rest more (sym found ∙ ap (number_at w32) e ∙ number_again w32 (2 ^ 32) wide32 other more (id_fits present before [] other h)) in
@@ -167,21 +151,6 @@ ids_begin present bytes rest count at = record {
   whole = at.front ∙ ap (λ l. l ++ rest) (sym (append-nil (to_be_bytes w32 count)));
   may = gone_whole present [] refl refl (omega arith) (from_none (λ k. among k []) present (λ x here. refl));
 }
-
-pub ids_more : (present bytes ids left rest : List ℕ) (count id : ℕ) → IdsRead present bytes count ids left → IdAt present ids left id rest → IdsRead present bytes count (ids ++ id ∷ []) rest
-ids_more present bytes ids left rest count id so at =
-    let head = to_be_bytes w32 count in
-    record {
-      few = so.few;
-      whole = so.whole ∙ ap (λ l. head ++ flat ids ++ l) at.front ∙ append_assoc head (flat ids) (to_be_bytes w32 id ++ rest)
-          ∙ ap (λ l. head ++ l) (flat-push ids id rest) ∙ sym (append_assoc head (flat (ids ++ id ∷ [])) rest);
-      may = at.may;
-    }
-
-pub ids_length : (present bytes ids left : List ℕ) (count : ℕ) → IdsRead present bytes count ids left → 4 + 4 * length ids + length left ≡ length bytes
-ids_length present bytes ids left count so =
-    let head = to_be_bytes w32 count in
-    omega (arith, ap length so.whole, length-append (head ++ flat ids) left, length-append head (flat ids), wide32.len count, flat-length ids)
 
 -- ids may have been dropped where the same others are there in another order
 same_gone : (present sorted gone : List ℕ) → IsPermutation present sorted → are_gone present gone ≡ are_gone sorted gone

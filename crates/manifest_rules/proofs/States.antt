@@ -1,19 +1,18 @@
 -- Parts of a state, read from the front of bytes.
-use Rattle.std.proofs.Common.{◌≡◌, ℕ, ◌+◌, ◌*◌, ◌^◌, ◌<◌, ◌≤◌, Bool, true, false, nat_lt, ◌&&◌, not, List, [], ◌∷◌, ◌++◌, length, take, drop, ◌⊎◌, inl, inr, Some, None, refl, sym, ap, ap₂, ◌∙◌, subst, arith, append_assoc, append-nil, true≢false, lt-ltb, le-leb}
+use Rattle.std.proofs.Common.{◌≡◌, ℕ, ◌+◌, ◌*◌, ◌^◌, ◌<◌, Bool, true, false, nat_lt, ◌&&◌, List, [], ◌∷◌, ◌++◌, length, take, drop, ◌⊎◌, inl, inr, Some, None, refl, sym, ap, ap₂, ◌∙◌, subst, arith, append_assoc, true≢false, lt-ltb}
 use Rattle.std.proofs.lemmas.Bool.{and_parts, and_from, ltb-true, leb-true}
-use Rattle.std.proofs.lemmas.List.{take_at, drop_at, length-append, drop-drop, take-append-drop}
+use Rattle.std.proofs.lemmas.List.{take_at, drop_at, length-append, drop-drop}
 use Rattle.std.specs.Int.{w32, to_be_bytes}
 use Rattle.std.specs.List.{list_all, flat_map}
 use Rattle.std.specs.Str.{IsUtf8}
-use Rattle.kv_edge.specs.Fields.{IsBytes, number_at, bytes_at}
-use Rattle.kv_edge.proofs.Fields.{wide32, number_takes, number_again, bytes_take, bytes_again, number_size}
+use Rattle.kv_edge.specs.Fields.{number_at}
+use Rattle.kv_edge.proofs.Fields.{wide32, number_again}
 use Rattle.manifest_rules.specs.declared.types.TheConstants.{DROPPED_LIMIT}
 use Rattle.manifest_rules.specs.Catalog.{Catalog, scope_ids, collection_ids}
 use Rattle.manifest_rules.specs.Text.{text_of}
 use Rattle.manifest_rules.specs.Form.{catalog_in}
 use Rattle.manifest_rules.specs.Laws.{without_dropped}
-use Rattle.manifest_rules.specs.State.{are_rising, is_sound, are_gone, is_kept, ids_bytes, text_bytes, state_of, TextAt, IdsAt, IsAt}
-use Rattle.manifest_rules.proofs.Gone.{share}
+use Rattle.manifest_rules.specs.State.{is_sound, are_gone, is_kept, ids_bytes, text_bytes, state_of, TextAt, IdsAt, IsAt}
 use Rattle.manifest_rules.proofs.Runs.{gone_parts, kept_parts}
 use Rattle.manifest_rules.proofs.ReadBack.{sound_parts, sound_read_back}
 use Rattle.manifest_rules.proofs.Ascii.{manifest_utf8}
@@ -32,9 +31,6 @@ same_front a r b s e len = record {
 
 pub front_and_rest : (bytes a r : List ℕ) (size : ℕ) → bytes ≡ a ++ r → size ≡ length a → bytes ≡ a ++ drop size bytes
 front_and_rest bytes a r size e len = e ∙ ap (λ t. a ++ t) (sym (ap (drop size) e ∙ drop_at a r size (sym len)))
-
-pub rest_is : (bytes a r : List ℕ) (size : ℕ) → bytes ≡ a ++ r → size ≡ length a → drop size bytes ≡ r
-rest_is bytes a r size e len = ap (drop size) e ∙ drop_at a r size (sym len)
 
 -- ---- text
 
@@ -111,12 +107,6 @@ same_ids present also xs ys r s h k e =
     record { front = same_flat xs ys (gone_parts present xs h).fits (gone_parts also ys k).fits count same.front; rest = same.rest }
 
 -- ---- one more id
-
-pub flat-push : (ids : List ℕ) (id : ℕ) (rest : List ℕ) → flat ids ++ (to_be_bytes w32 id ++ rest) ≡ flat (ids ++ id ∷ []) ++ rest
-flat-push [] id rest = ap (λ t. t ++ rest) (sym (append-nil (to_be_bytes w32 id)))
-flat-push (x ∷ xs) id rest =
-    append_assoc (to_be_bytes w32 x) (flat xs) (to_be_bytes w32 id ++ rest) ∙ ap (λ t. to_be_bytes w32 x ++ t) (flat-push xs id rest)
-    ∙ sym (append_assoc (to_be_bytes w32 x) (flat (xs ++ id ∷ [])) rest)
 
 pub below-push : (ids : List ℕ) (id : ℕ) → below ids ≡ true → id < 2 ^ 32 → below (ids ++ id ∷ []) ≡ true
 below-push [] id h small = and_from (nat_lt id (2 ^ 32)) true (lt-ltb id (2 ^ 32) small) refl

@@ -1,8 +1,7 @@
-use Rattle.std.proofs.Common.{◌≡◌, ◌+◌, ◌*◌, ◌<◌, List, [], ◌++◌, ◌∷◌, length, drop, sym, ap, ◌∙◌, subst, refl, arith}
-use Rattle.std.specs.List.Sorted.{IsPermutation}
+use Rattle.std.proofs.Common.{◌≡◌, ◌+◌, ◌*◌, ◌<◌, length, drop, sym, ap, subst, arith}
 use Rattle.manifest_rules.specs.declared.types.TheConstants.{DROPPED_LIMIT}
 use Rattle.manifest_rules.specs.State.{CountAt, NoId}
-use Rattle.manifest_rules.proofs.Faults.{IdsRead, ids_begin, ids_more, ids_length, ids_break, ids_all}
+use Rattle.manifest_rules.proofs.Faults.{IdsRead, ids_begin, ids_break, ids_all}
 use Rattle.manifest_rules.proofs.state.read_ids.Goals as goal
 
 pub loop-init : goal.loop-init

@@ -1,7 +1,7 @@
 use Rattle.std.proofs.Common.{◌≡◌, ◌+◌, ◌≤◌, length, drop, sym, ap, ap₂, ◌∙◌, subst, arith}
 use Rattle.std.proofs.lemmas.Result.{err_from_is_err_and}
 use Rattle.manifest_rules.specs.Catalog.{scope_ids, collection_ids}
-use Rattle.manifest_rules.specs.State.{TextAt, IdsAt, IsAt}
+use Rattle.manifest_rules.specs.State.{IdsAt, IsAt}
 use Rattle.manifest_rules.proofs.States.{with_gone, state_found}
 use Rattle.manifest_rules.proofs.Faults.{text_fault, scopes_fault, collections_fault, text_within, ids_within}
 use Rattle.manifest_rules.proofs.state.read_state.Goals as goal
