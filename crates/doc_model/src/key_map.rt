@@ -75,8 +75,8 @@ impl<V> KeyMap<V> {
         self.get(key).is_some()
     }
 
-    /// Sets what the key has, and answers what it had. The key is copied where it isn't there yet. At `Err` the map is as
-    /// before, and the new value is dropped.
+    /// Sets what the key has, and answers what it had. The key is copied unless it stands in its slot. At `Err` the map is
+    /// as before, and the new value is dropped.
     pub fn insert(&mut self, alloc: Global, key: &DocKey, value: V) -> Result<Option<V>, NoMemory>
     where
         V: Drop,

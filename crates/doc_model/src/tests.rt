@@ -94,25 +94,28 @@ fn two_keys_may_have_one_slot(rt: HostRuntime) -> Result<(), Fail> {
     assert_eq!(rt; slot_of(&coma), slot_of(&gmjg));
     for (first, second) in [(&coma, &gmjg), (&gmjg, &coma)] {
         let mut map = KeyMap::<u8>::new(alloc);
-        assert_eq!(rt; map.insert(alloc, first, 1)?, None);
-        assert_eq!(rt; map.get(second).copied(), None);
-        assert_eq!(rt; map.insert(alloc, second, 2)?, None);
-        assert_eq!(rt; map.insert(alloc, first, 3)?, Some(1));
-        assert_eq!(rt; map.insert(alloc, second, 4)?, Some(2));
-        assert_eq!(rt; map.get(first).copied(), Some(3));
-        assert_eq!(rt; map.get(second).copied(), Some(4));
-        assert_eq!(rt; map.keys_in(alloc, &[8])?.len(), 2);
-
-        assert_eq!(rt; map.remove(first), Some(3));
-        assert_eq!(rt; map.get(first).copied(), None);
-        assert_eq!(rt; map.get(second).copied(), Some(4));
-        // the second moves into the slot that is free now
-        assert_eq!(rt; map.insert(alloc, second, 5)?, Some(4));
-        assert_eq!(rt; map.insert(alloc, first, 6)?, None);
-        assert_eq!(rt; map.remove(second), Some(5));
-        assert_eq!(rt; map.remove(second), None);
-        assert_eq!(rt; map.remove(first), Some(6));
-        assert_eq!(rt; map.keys_in(alloc, &[8])?.len(), 0);
+        // what a key had, and what it then has
+        for (key, before, after) in [
+            (first, None, Some(1)),
+            (second, None, Some(2)),
+            (first, Some(1), Some(3)),
+            (second, Some(2), Some(4)),
+            (first, Some(3), None),
+            // the second moves into the slot that is free now
+            (second, Some(4), Some(5)),
+            (first, None, Some(6)),
+            (second, Some(5), None),
+            (second, None, None),
+            (first, Some(6), None),
+        ] {
+            assert_eq!(rt; map.get(key).copied(), before);
+            let answer = match after {
+                Some(value) => map.insert(alloc, key, value)?,
+                None => map.remove(key),
+            };
+            assert_eq!(rt; answer, before);
+            assert_eq!(rt; map.get(key).copied(), after);
+        }
     }
     Ok(())
 }
