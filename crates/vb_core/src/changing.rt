@@ -135,7 +135,7 @@ pub(crate) fn make(
         }
         Effect::Remove => What::Remove(cas),
     };
-    documents.insert(key.copy(alloc)?, what)?;
+    documents.insert(alloc, key, what)?;
     if tells_token(body) {
         reply.token = Some((TERM, position));
     }
