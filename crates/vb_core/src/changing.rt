@@ -14,7 +14,7 @@ ghost use Rattle.vb_core.specs.Changing.{documents_with};
 use crate::vb::{LAST_MOMENT, TERM, VBUCKET};
 use doc_model::{Doc, DocKey, KeyMap, Status, What};
 use doc_step::{Change, Effect};
-use kv_edge::{Copied, NoMemory};
+use kv_edge::NoMemory;
 use kv_request::{Body, Reply, Request};
 use manifest_rules::{Manifest, has};
 use std::alloc::Global;
