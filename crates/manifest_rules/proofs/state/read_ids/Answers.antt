@@ -20,8 +20,7 @@ returns-in-None-id_at-clause-breaks c =
     let ids = c.loop.ids.items in
     let none : NoId present ids c.loop.left.now = subst (λ l. NoId l ids c.loop.left.now) c.as_slice-in-loop.ensures.value (subst (λ l. NoId c.as_slice-in-loop.result.now l c.loop.left.now) c.as_slice.ensures.value c.in-None-id_at.ensures) in
     let less : length ids < c.in-Some.found.0 = omega (arith, c.loop.invariant.counted, c.loop-test.true) in
-    let size : c.args.start + 4 + 4 * c.len.result ≡ c.args.start + (4 + 4 * length ids) = omega (arith, c.len.ensures) in
-    (4 + 4 * length ids, size, ids_break c.args.present.now present part ids c.loop.left.now c.in-Some.found.0 c.in_ok-present.ensures.same c.loop.invariant.read less none)
+    (4 + 4 * length ids, omega (arith, c.len.ensures), ids_break c.args.present.now present part ids c.loop.left.now c.in-Some.found.0 c.in_ok-present.ensures.same c.loop.invariant.read less none)
 
 pub returns-clause-found : goal.returns-clause-found
 returns-clause-found c =
