@@ -6,12 +6,15 @@ machine counts little; peak memory is that of the whole process.
 
 Four measurements:
 - Set and Get over 10,000 keys with values of 100 bytes, 100,000 of them and then 1,000,000: how time and memory grow;
-- all operations, 1,000,000 of them, over 10,000 and then 1,000,000 live keys, which are stored first and not timed;
-- 1,000,000 Gets among 1,000,000 documents in one collection and in 1,200;
+- all operations, 1,000,000 of them on keys at random, over 10,000 and then 1,000,000 live keys, which are stored first:
+  timed from the first operation to the reply to the last, without the load before and the end of the program;
+- 1,000,000 Gets at random among 1,000,000 documents in one collection and in 1,200, timed likewise;
 - one Set of 20 MiB, and then a Get, written to the program a byte at a time and in one piece.
 """
+import io
 import os
 import pathlib
+import random
 import struct
 import subprocess
 import sys
@@ -24,7 +27,7 @@ TOP = pathlib.Path(__file__).resolve().parent.parent
 PROGRAM = pathlib.Path(sys.argv[1] if len(sys.argv) > 1 else TOP / "crates/hawoyefa/out/hawoyefa").resolve()
 
 GET, SET, ADD, REPLACE, DELETE, INCREMENT, DECREMENT = range(0x00, 0x07)
-GETQ, GETK, APPEND, PREPEND, SETQ, TOUCH, GAT = 0x09, 0x0C, 0x0E, 0x0F, 0x11, 0x1C, 0x1D
+GETQ, NOOP, GETK, APPEND, PREPEND, SETQ, TOUCH, GAT = 0x09, 0x0A, 0x0C, 0x0E, 0x0F, 0x11, 0x1C, 0x1D
 
 
 def frame(opcode: int, opaque: int, extras: bytes, key: bytes, value: bytes) -> bytes:
@@ -50,32 +53,34 @@ def stored(out, keys: int) -> None:
         out.write(frame(SETQ, 0, bytes(8), b"key-%07d" % i, value))
 
 
-def operation(i: int, keys: int) -> bytes:
-    """The i-th request of a mix of all operations, on keys far apart."""
-    at = i * 7919 % keys
+def operation(i: int, at: int) -> bytes:
+    """The i-th request of a mix of all operations, on this key or one beside it."""
     text, number = b"key-%07d" % at, b"key-%07d" % (at // 10 * 10)
+    odd, last = b"key-%07d" % (at | 1), b"key-%07d" % (at | 3)
     counter = struct.pack(">QQI", 3, 1000, 0)
-    return (
-        frame(GET, i, b"", text, b""),
-        frame(SET, i, bytes(8), b"key-%07d" % (at | 1), VALUE),
-        frame(INCREMENT, i, counter, number, b""),
-        frame(GETK, i, b"", text, b""),
-        frame(DECREMENT, i, counter, number, b""),
-        frame(ADD, i, bytes(8), text, VALUE),
-        frame(REPLACE, i, bytes(8), b"key-%07d" % (at | 1), VALUE),
-        frame(TOUCH, i, bytes(4), text, b""),
-        frame(GAT, i, bytes(4), text, b""),
-        frame(APPEND, i, b"", b"key-%07d" % (at | 1), b"+"),
-        frame(PREPEND, i, b"", b"key-%07d" % (at | 1), b"-"),
-        frame(DELETE, i, b"", b"key-%07d" % (at | 3), b""),
-        frame(GETQ, i, b"", text, b""),
+    opcode, extras, key, value = (
+        (GET, b"", text, b""),
+        (SET, bytes(8), odd, VALUE),
+        (INCREMENT, counter, number, b""),
+        (GETK, b"", text, b""),
+        (DECREMENT, counter, number, b""),
+        (ADD, bytes(8), text, VALUE),
+        (REPLACE, bytes(8), odd, VALUE),
+        (TOUCH, bytes(4), text, b""),
+        (GAT, bytes(4), text, b""),
+        (APPEND, b"", odd, b"+"),
+        (PREPEND, b"", odd, b"-"),
+        (DELETE, b"", last, b""),
+        (GETQ, b"", text, b""),
     )[i % 13]
+    return frame(opcode, i, extras, key, value)
 
 
 def mixed(out, requests: int, keys: int) -> None:
-    stored(out, keys)
+    """A mix of all operations, on keys at random, the same ones in each run."""
+    places = random.Random(1)
     for i in range(requests):
-        out.write(operation(i, keys))
+        out.write(operation(i, places.randrange(keys)))
 
 
 HELLO, SET_MANIFEST = 0x1F, 0xB9
@@ -97,15 +102,21 @@ def manifest(collections: int) -> bytes:
     return ('{"uid":"1","scopes":[{"name":"_default","uid":"0","collections":[%s]}]}' % named).encode()
 
 
-def in_collections(out, collections: int, documents: int, gets: int) -> None:
-    """Documents spread over collections, and Gets of documents far apart."""
+def stored_in(out, collections: int, documents: int) -> None:
+    """Documents spread over collections, which a manifest makes first."""
     ids = [leb128(i) for i in [0, *range(8, collections + 7)]]
     out.write(frame(HELLO, 0, b"", b"", b"\x00\x12"))
     out.write(frame(SET_MANIFEST, 0, b"", b"", manifest(collections)))
     for i in range(documents):
         out.write(frame(SETQ, 0, bytes(8), ids[i % collections] + b"key-%07d" % i, VALUE))
+
+
+def got_from(out, collections: int, documents: int, gets: int) -> None:
+    """Gets of such documents at random, the same ones in each run."""
+    ids = [leb128(i) for i in [0, *range(8, collections + 7)]]
+    places = random.Random(1)
     for i in range(gets):
-        at = i * 7919 % documents
+        at = places.randrange(documents)
         out.write(frame(GET, i & 0xFFFFFFFF, b"", ids[at % collections] + b"key-%07d" % at, b""))
 
 
@@ -127,6 +138,51 @@ def timed(write) -> tuple[float, int, int]:
         size = os.path.getsize(file.name)
         seconds, peak = min(run(file.name) for _ in range(3))
     return seconds, peak, size
+
+
+def fed(child: subprocess.Popen, whole: bytes) -> threading.Thread:
+    """Writes bytes to a program beside what else goes on."""
+
+    def write() -> None:
+        for at in range(0, len(whole), 65536):
+            os.write(child.stdin.fileno(), whole[at : at + 65536])
+
+    writer = threading.Thread(target=write)
+    writer.start()
+    return writer
+
+
+def taken(child: subprocess.Popen) -> float:
+    """The processor seconds that a program has taken so far."""
+    return int(pathlib.Path(f"/proc/{child.pid}/schedstat").read_text().split()[0]) / 1e9
+
+
+def paced(load, operations) -> float:
+    """Processor seconds that a connection takes for operations behind a load: from the reply to a Noop behind the load to
+    the reply to one behind the operations. The best of three."""
+    asked, reply = frame(NOOP, 7, b"", b"", b""), struct.pack(">BBHBBHIIQ", 0x81, NOOP, 0, 0, 0, 0, 0, 7, 0)
+    parts = []
+    for write in (load, operations):
+        part = io.BytesIO()
+        write(part)
+        parts.append(part.getvalue() + asked)
+    best = float("inf")
+    for _ in range(3):
+        child = subprocess.Popen([str(PROGRAM), "pipe"], stdin=subprocess.PIPE, stdout=subprocess.PIPE, bufsize=0)
+        seconds = []
+        for part in parts:
+            writer, tail = fed(child, part), b""
+            while not tail.endswith(reply):
+                piece = child.stdout.read(1 << 20)
+                if not piece:
+                    sys.exit("the program ended before it had answered")
+                tail = (tail + piece)[-len(reply) :]
+            writer.join()
+            seconds.append(taken(child))
+        child.stdin.close()
+        child.wait()
+        best = min(best, seconds[1] - seconds[0])
+    return best
 
 
 def piecewise(piece: int) -> float:
@@ -160,20 +216,19 @@ def main() -> None:
 
     mix = {}
     for keys in (10_000, 1_000_000):
-        before, _, _ = timed(lambda out: stored(out, keys))
-        seconds, peak, _ = timed(lambda out: mixed(out, 1_000_000, keys))
-        mix[keys] = seconds - before
+        mix[keys] = paced(lambda out: stored(out, keys), lambda out: mixed(out, 1_000_000, keys))
         print(
             f"{keys:>9} live keys  {mix[keys]:7.3f} s for 1,000,000 of all operations  "
-            f"{1_000_000 / mix[keys]:>10.0f} requests/s  peak {peak / 1e6:7.1f} MB"
+            f"{1_000_000 / mix[keys]:>10.0f} requests/s"
         )
     print(f"a hundred times the keys take {mix[1_000_000] / mix[10_000]:.1f} times as long")
 
     gets = {}
     for collections in (1, 1_200):
-        before, _, _ = timed(lambda out: in_collections(out, collections, 1_000_000, 0))
-        seconds, _, _ = timed(lambda out: in_collections(out, collections, 1_000_000, 1_000_000))
-        gets[collections] = seconds - before
+        gets[collections] = paced(
+            lambda out: stored_in(out, collections, 1_000_000),
+            lambda out: got_from(out, collections, 1_000_000, 1_000_000),
+        )
         print(
             f"{collections:>9} collections  {gets[collections]:7.3f} s for 1,000,000 Gets among 1,000,000 documents  "
             f"{1_000_000 / gets[collections]:>10.0f} requests/s"
