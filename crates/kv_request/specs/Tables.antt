@@ -240,6 +240,14 @@ abbrev pub key_spelling : Bool → DocKey → List ℕ
 key_spelling true key = id_bytes key.collection ++ key.key
 key_spelling false key = key.key
 
+-- a key that a request can name: it is neither empty nor too long, and where no collections are granted it is in the one that
+-- is there from the start
+pub record IsNamed (granted : Bool) (key : DocKey) : Type 0 where
+  pub some : 1 ≤ length key.key
+  pub fits : length key.key ≤ name_limit key.collection
+  pub below : key.collection < 2 ^ 32
+  pub plain : granted ≡ false → key.collection ≡ 0
+
 -- the bytes of a key, where there is one
 abbrev pub key_bytes : Bool → Option DocKey → List ℕ
 key_bytes granted None = []

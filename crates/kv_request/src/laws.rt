@@ -2,8 +2,10 @@
 
 ghost use Rattle.kv_request.specs.declared.reply.Reply.{Reply};
 ghost use Rattle.kv_request.specs.declared.request.Request.{Request};
-ghost use Rattle.kv_request.specs.Tables.{IsReply, IsSmallReply, IsRequest, IsSmallRequest};
-ghost use Rattle.std.specs.Prelude.{◌≡◌};
+ghost use Rattle.doc_model.specs.declared.key.DocKey.{DocKey};
+ghost use Rattle.leb_collections.specs.Leb128.{AreBytes};
+ghost use Rattle.kv_request.specs.Tables.{IsReply, IsSmallReply, IsRequest, IsSmallRequest, IsNamed, key_from, key_spelling};
+ghost use Rattle.std.specs.Prelude.{◌≡◌, ℕ, Bool, List, Some};
 
 use crate::opcode::{
     ADD, ADDQ, APPEND, APPENDQ, COLLECTION_ID, DECREMENT, DECREMENTQ, DELETE, DELETEQ,
@@ -25,6 +27,12 @@ pub fn small_replies()
 /// within the limit.
 pub fn requests_are_small()
     ensures { (made : Request) → IsRequest made → IsSmallRequest made }
+{}
+
+/// A key is read from the bytes that spell it, and no other bytes are read as it, whether collections are granted or not.
+pub fn keys_as_spelled()
+    ensures read { (granted : Bool) (key : DocKey) → IsNamed granted key → key_from granted (key_spelling granted key) ≡ Some key }
+    ensures spelled { (granted : Bool) (bytes : List ℕ) (key : DocKey) → AreBytes bytes → key_from granted bytes ≡ Some key → bytes ≡ key_spelling granted key }
 {}
 
 /// The limits and the opcodes are these numbers.

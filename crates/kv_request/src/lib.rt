@@ -49,7 +49,7 @@ mod reply;
 mod request;
 mod writing;
 
-pub use laws::{request_numbers, requests_are_small, small_replies};
+pub use laws::{keys_as_spelled, request_numbers, requests_are_small, small_replies};
 pub use opcode::Command;
 pub use reading::{
     DURABILITY, KEY_LIMIT, MANIFEST_LIMIT, OTHER_KEY_LIMIT, USUAL_TIMEOUT, VALUE_LIMIT,
