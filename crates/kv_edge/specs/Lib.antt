@@ -1,4 +1,5 @@
 pub mod Edge
 pub mod Fields
 pub mod Memory
+pub mod Standard
 pub mod Transfer

@@ -1,4 +1,4 @@
-ghost use Rattle.std.specs.Prelude.{◌≡◌, ℕ, ◌≢◌, ◌+◌, ◌^◌, ◌-◌, ◌<◌, ◌≤◌, ◌↔◌, [], length, take, drop, min, Contains, Some};
+ghost use Rattle.std.specs.Prelude.{◌≡◌, ℕ, ◌≢◌, ◌+◌, ◌^◌, ◌-◌, ◌<◌, ◌≤◌, ◌↔◌, [], length, take, drop, min, Contains, Some, ◌⊎◌};
 ghost use Rattle.kv_edge.specs.Edge.{Rose, IsTakenWithin, Takes, IsPutWithin, Puts};
 
 use crate::bytes::Bytes;
@@ -23,7 +23,7 @@ impl Model for MemSource {
 
     ghost Value = { Memory };
 
-    ghost view = { λ s. record { bytes = drop s.taken s.bytes.items; most = s.most; failing = s.failing.items; calls = s.calls; failed = s.failed } };
+    ghost view = { λ s. record { bytes = drop s.taken s.bytes.items; most = s.most; failing = s.failing.items; calls = s.calls; failed = s.failed; refused = 0 } };
 
     ghost invariant = { λ s. (s.taken ≤ vec_len s.bytes) × (0 < s.most) };
 }
@@ -104,6 +104,8 @@ pub struct MemSink {
     failing: Vec<u64>,
     calls: u64,
     failed: u64,
+    /// How many calls found no memory.
+    refused: u64,
 }
 
 impl Model for MemSink {
@@ -112,7 +114,7 @@ impl Model for MemSink {
 
     ghost Value = { Memory };
 
-    ghost view = { λ s. record { bytes = s.bytes.items; most = s.most; failing = s.failing.items; calls = s.calls; failed = s.failed } };
+    ghost view = { λ s. record { bytes = s.bytes.items; most = s.most; failing = s.failing.items; calls = s.calls; failed = s.failed; refused = s.refused } };
 
     ghost invariant = { λ s. 0 < s.most };
 }
@@ -127,6 +129,7 @@ impl MemSink {
         ensures failing { result.failing ≡ failing.items }
         ensures calls { result.calls ≡ 0 }
         ensures failed { result.failed ≡ 0 }
+        ensures refused { result.refused ≡ 0 }
     {
         MemSink {
             bytes: Vec::new(alloc),
@@ -134,6 +137,7 @@ impl MemSink {
             failing,
             calls: 0,
             failed: 0,
+            refused: 0,
         }
     }
 
@@ -142,6 +146,13 @@ impl MemSink {
         ensures { result.now ≡ self.now.bytes }
     {
         self.bytes.as_slice()
+    }
+
+    /// How many calls failed since no memory was found for their bytes.
+    pub fn refused(&self) -> u64
+        ensures { result ≡ self.now.refused }
+    {
+        self.refused
     }
 }
 
@@ -156,7 +167,9 @@ impl Sink for MemSink {
         ensures counted { self.old.failed ≤ self.new.failed }
         ensures cause { result ≡ Put.Failed → Rose self.old.failed self.new.failed }
         ensures alone { result ≢ Put.Failed → self.new.failed ≡ self.old.failed }
-        ensures fails { Contains self.old.failing self.old.calls → result ≡ Put.Failed }
+        ensures told { Contains self.old.failing self.old.calls → result ≡ Put.Failed }
+        ensures untold { result ≡ Put.Failed → Contains self.old.failing self.old.calls ⊎ Rose self.old.refused self.new.refused }
+        ensures refused { Contains self.old.failing self.old.calls ⊎ (result ≢ Put.Failed) → self.new.refused ≡ self.old.refused }
         ensures at_most { (n : ℕ) → result ≡ Put.Wrote n → n ≤ self.old.most }
         ensures most { self.new.most ≡ self.old.most }
         ensures failing { self.new.failing ≡ self.old.failing }
@@ -173,6 +186,7 @@ impl Sink for MemSink {
         match self.bytes.extend_from_slice(front) {
             Ok(()) => Put::Wrote(count),
             Err(_) => {
+                self.refused = self.refused.saturating_add(1);
                 self.failed = self.failed.saturating_add(1);
                 Put::Failed
             }

@@ -81,6 +81,7 @@ fn a_sink_in_memory_fails_at_its_numbers_and_writes_nothing_then(
     assert_eq!(rt; sink.write(b"c"), Put::Wrote(1));
     assert_eq!(rt; sink.write(b""), Put::Wrote(0));
     assert_eq!(rt; sink.bytes(), b"abc".as_slice());
+    assert_eq!(rt; sink.refused(), 0);
     Ok(())
 }
 
