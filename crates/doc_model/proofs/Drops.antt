@@ -1,13 +1,11 @@
 -- What a map keeps without the keys of dropped collections.
-use Rattle.std.specs.Prelude.{◌≡◌, ℕ, ◌+◌, ◌<◌, Bool, true, false, cond, not, ◌&&◌, ◌||◌, is_some, nat_eq, List, [], length, take, Option, Some, None, refl}
-use Rattle.std.specs.List.{list_any}
-use Rattle.std.specs.Ordering.{eq_by_cmp}
+use Rattle.std.specs.Prelude.{◌≡◌, Bool, true, false, cond, filter, List, [], ◌∷◌, Option, Some, None, refl}
+use Rattle.std.specs.BTreeMap.{is_at}
 use Rattle.std.specs.FinMap as map
-use Rattle.std.proofs.Common.{sym, ◌∙◌, ap, get_or}
-use Rattle.std.proofs.lemmas.List.Folds.{list_any_more}
+use Rattle.std.proofs.Common.{sym, ◌∙◌, ap}
 use Rattle.doc_model.specs.declared.key.DocKey.{DocKey}
-use Rattle.doc_model.specs.Keys.{key_cmp, is_among}
-use Rattle.doc_model.proofs.Entries.{exact_keys, keys_total}
+use Rattle.doc_model.specs.Keys.{key_cmp}
+use Rattle.doc_model.proofs.Entries.{exact_keys, keys_total, same_key, value_at, get_value}
 
 -- what a map has at a key, once the keys that fail a test are gone
 pub get_kept : {X : Type 0} (m : map.FinMap key_cmp X) (p : DocKey → Bool) (q : DocKey) → map.get (map.retain_keys m p) q ≡ cond (p q) (map.get m q) None
@@ -17,33 +15,31 @@ get_kept m p q = map.get-retain_keys m p q (λ x e. ap p (sym (exact_keys q x e)
 pub same_kept : {X : Type 0} (m : map.FinMap key_cmp X) (p r : DocKey → Bool) → ((q : DocKey) → cond (p q) (map.get m q) None ≡ cond (r q) (map.get m q) None) → map.retain_keys m p ≡ map.retain_keys m r
 same_kept m p r h = map.same_map keys_total exact_keys _ _ (λ q. get_kept m p q ∙ h q ∙ sym (get_kept m r q))
 
--- without no keys a map is as it was
-pub all_kept : {X : Type 0} (m : map.FinMap key_cmp X) → m ≡ map.retain_keys m (λ key. not (is_among [] key))
-all_kept m = map.same_map keys_total exact_keys m _ (λ q. sym (get_kept m (λ key. not (is_among [] key)) q))
+-- ---- entries that pass a test
 
-taken : {X : Type 0} (a b : Bool) (o : Option X) → cond b None (cond (not a) o None) ≡ cond (not (a || b)) o None
-taken true true o = refl
-taken true false o = refl
-taken false true o = refl
-taken false false o = refl
+lookup_kept : {X : Type 0} (p : DocKey → Bool) (es : List (DocKey × X)) (q : DocKey) → value_at (filter (λ e. p e.0) es) q ≡ cond (p q) (value_at es q) None
+lookup_kept p [] q = nothing (p q)
+  where
+    nothing : {X : Type 0} (b : Bool) → (let o : Option X = None in o) ≡ cond b None None
+    nothing true = refl
+    nothing false = refl
+lookup_kept {X} p (e ∷ es) q = by (p e.0) refl (is_at (key_cmp q) e.0) refl (lookup_kept p es q)
+  where
+    here : (c : Bool) → c ≡ true → cond c (Some e.1) None ≡ Some e.1
+    here c h = ap (λ b. cond b (Some e.1) None) h
 
--- one more key is gone
-pub one_less : {X : Type 0} (m : map.FinMap key_cmp X) (keys : List DocKey) (i : ℕ) (key : DocKey) → i < length keys → key ≡ get_or keys i key → map.remove (map.retain_keys m (λ k. not (is_among (take i keys) k))) key ≡ map.retain_keys m (λ k. not (is_among (take (i + 1) keys) k))
-one_less m keys i key h e = map.same_map keys_total exact_keys _ _ (λ q.
-    let among = is_among (take i keys) q in
-    let one : eq_by_cmp key_cmp q key ≡ eq_by_cmp key_cmp q (get_or keys i key) = ap (eq_by_cmp key_cmp q) e in
-    map.get-remove keys_total (map.retain_keys m (λ k. not (is_among (take i keys) k))) key q
-    ∙ ap (cond (eq_by_cmp key_cmp q key) None) (get_kept m (λ k. not (is_among (take i keys) k)) q)
-    ∙ taken among (eq_by_cmp key_cmp q key) (map.get m q)
-    ∙ ap (λ b. cond (not b) (map.get m q) None) (ap (λ b. among || b) one ∙ sym (list_any_more (eq_by_cmp key_cmp q) keys i key h))
-    ∙ sym (get_kept m (λ k. not (is_among (take (i + 1) keys) k)) q))
+    by : (b : Bool) → p e.0 ≡ b → (c : Bool) → is_at (key_cmp q) e.0 ≡ c → value_at (filter (λ e. p e.0) es) q ≡ cond (p q) (value_at es q) None
+        → value_at (cond b (e ∷ filter (λ e. p e.0) es) (filter (λ e. p e.0) es)) q ≡ cond (p q) (cond c (Some e.1) (value_at es q)) None
+    by true f true g rest =
+        ap (λ v. cond v (Some e.1) (value_at (filter (λ e. p e.0) es) q)) g
+        ∙ sym (ap (λ b. cond b (Some e.1) None) (ap p (same_key q e.0 g) ∙ f))
+    by true f false g rest = ap (λ v. cond v (Some e.1) (value_at (filter (λ e. p e.0) es) q)) g ∙ rest
+    by false f true g rest =
+        let out : p q ≡ false = ap p (same_key q e.0 g) ∙ f in
+        rest ∙ ap (λ b. cond b (value_at es q) None) out ∙ sym (ap (λ b. cond b (Some e.1) None) out)
+    by false f false g rest = rest
 
-lost : {X : Type 0} (d : Bool) (o : Option X) → cond (not (d && is_some o)) o None ≡ cond (not d) o None
-lost true None = refl
-lost true (Some x) = refl
-lost false o = refl
-
--- to take the keys that are there of some collections is to take all keys of these collections
-pub dropped_is : {X : Type 0} (m : map.FinMap key_cmp X) (keys : List DocKey) (collections : List ℕ) → ((key : DocKey) → is_among keys key ≡ (list_any (nat_eq key.collection) collections && is_some (map.get m key))) → map.retain_keys m (λ key. not (is_among keys key)) ≡ map.retain_keys m (λ key. not (list_any (nat_eq key.collection) collections))
-dropped_is m keys collections h = same_kept m (λ key. not (is_among keys key)) (λ key. not (list_any (nat_eq key.collection) collections)) (λ q.
-    ap (λ b. cond (not b) (map.get m q) None) (h q) ∙ lost (list_any (nat_eq q.collection) collections) (map.get m q))
+-- the map of the entries whose keys pass
+pub entries_kept : {X : Type 0} (p : DocKey → Bool) (es : List (DocKey × X)) → map.from_entries {R = key_cmp} (filter (λ e. p e.0) es) ≡ map.retain_keys (map.from_entries es) p
+entries_kept p es = map.same_map keys_total exact_keys _ _ (λ q.
+    get_value (filter (λ e. p e.0) es) q ∙ lookup_kept p es q ∙ ap (λ o. cond (p q) o None) (sym (get_value es q)) ∙ sym (get_kept (map.from_entries es) p q))

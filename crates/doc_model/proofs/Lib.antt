@@ -1,4 +1,5 @@
 pub mod Entries
 pub mod Drops
-mod Walks
+pub mod Searched
+mod Freed
 mod Slots

@@ -30,10 +30,10 @@ exact_slots a b h = ap (λ (p : ℕ × ℕ). record { collection = p.0; hash = p
 slots_total : IsTotalOrder slot_cmp
 slots_total = then_total (on_total (λ s. s.collection) nat_cmp_total) (on_total (λ s. s.hash) nat_cmp_total)
 
-same_slot : (a b : Slot) → is_at (slot_cmp a) b ≡ true → a ≡ b
+pub same_slot : (a b : Slot) → is_at (slot_cmp a) b ≡ true → a ≡ b
 same_slot a b e = exact_slots a b (is_equal (slot_cmp a b) e)
 
-slot_itself : (a : Slot) → is_at (slot_cmp a) a ≡ true
+pub slot_itself : (a : Slot) → is_at (slot_cmp a) a ≡ true
 slot_itself a = ap is_eq (tied_itself slots_total a)
 
 key_itself : (a : DocKey) → is_at (key_cmp a) a ≡ true

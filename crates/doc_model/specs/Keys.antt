@@ -1,8 +1,8 @@
 -- The order of keys, and what a map by keys has.
-use Rattle.std.specs.Prelude.{ℕ, ◌≤◌, Bool, List, [], ◌∷◌, refl}
+use Rattle.std.specs.Prelude.{ℕ, nat_eq, Bool, List, refl}
 use Rattle.std.specs.declared.cmp.Ordering.{Ordering}
-use Rattle.std.specs.List.{list_any, AllByRecursion}
-use Rattle.std.specs.Ordering.{nat_cmp, ordering_then, eq_by_cmp}
+use Rattle.std.specs.List.{list_any}
+use Rattle.std.specs.Ordering.{nat_cmp, ordering_then}
 use Rattle.std.specs.Cmp.Lexicographic.{slice_cmp}
 use Rattle.std.specs.Coded.{Coded, code_by, coded×, coded_ℕ, coded_list}
 use Rattle.doc_model.specs.declared.key.DocKey.{DocKey}
@@ -15,16 +15,10 @@ key_cmp a b = ordering_then (nat_cmp a.collection b.collection) (slice_cmp nat_c
 abbrev pub coded_key : Coded DocKey
 coded_key = code_by (ℕ × List ℕ) (coded× coded_ℕ (coded_list coded_ℕ)) (λ k. (k.collection, k.key)) (λ p. record { collection = p.0; key = p.1 }) (λ _. refl)
 
--- whether a key is among others
-abbrev pub is_among : List DocKey → DocKey → Bool
-is_among keys key = list_any (eq_by_cmp key_cmp key) keys
+-- whether an id is among ids
+abbrev pub is_among_ids : List ℕ → ℕ → Bool
+is_among_ids ids id = list_any (nat_eq id) ids
 
--- the collections of keys do not fall
-abbrev pub Ascend : List DocKey → Type 0
-Ascend [] = Unit {0}
-Ascend (k ∷ ks) = AllByRecursion (λ l. k.collection ≤ l.collection) ks × Ascend ks
-
--- keys in the order of their collections, from this one on
-pub record BeginsAt (collection : ℕ) (keys : List DocKey) : Type 0 where
-  pub ascend : Ascend keys
-  pub from : AllByRecursion (λ k. collection ≤ k.collection) keys
+-- whether a key is in one of these collections
+abbrev pub is_in : List ℕ → DocKey → Bool
+is_in collections key = is_among_ids collections key.collection

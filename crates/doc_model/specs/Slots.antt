@@ -1,9 +1,10 @@
 -- Where a key is looked up, and what stands where it should.
-use Rattle.std.specs.Prelude.{◌≡◌, ◌/◌, ◌^◌, List}
+use Rattle.std.specs.Prelude.{◌≡◌, ℕ, ◌/◌, ◌^◌, nat_eq, not, true, is_some, List}
 use Rattle.std.specs.declared.cmp.Ordering.{Ordering}
-use Rattle.std.specs.List.{AllByRecursion}
+use Rattle.std.specs.List.{list_all, AllByRecursion}
 use Rattle.std.specs.List.Sorted.{IsStrictlySortedBy}
-use Rattle.std.specs.Map.{keys_of}
+use Rattle.std.specs.Map.{keys_of, lookup}
+use Rattle.std.specs.BTreeMap.{is_at}
 use Rattle.std.specs.Ordering.{nat_cmp, ordering_then}
 use Rattle.std.specs.Hash.FoldHasher as folding
 use Rattle.doc_model.specs.declared.key.DocKey.{DocKey}
@@ -21,3 +22,12 @@ slot_of key = record { collection = key.collection; hash = folding.finish (foldi
 pub record ArePlaced {X : Type 0} (entries : List (Slot × (DocKey × X))) : Type 0 where
   pub sorted : IsStrictlySortedBy slot_cmp (keys_of entries)
   pub placed : AllByRecursion (λ e. e.0 ≡ slot_of e.1.0) entries
+
+-- no slot of a collection is taken
+abbrev pub HasNone : {X : Type 0} → ℕ → List (Slot × X) → Type 0
+HasNone collection entries = list_all (λ e. not (nat_eq e.0.collection collection)) entries ≡ true
+
+-- a slot of a collection is taken
+pub record HasFirst {X : Type 0} (collection : ℕ) (entries : List (Slot × X)) (slot : Slot) : Type 0 where
+  pub its : slot.collection ≡ collection
+  pub taken : is_some (lookup (is_at (slot_cmp slot)) entries) ≡ true

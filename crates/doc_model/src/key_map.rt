@@ -1,17 +1,15 @@
-ghost use Rattle.std.specs.Prelude.{◌≡◌, ◌&&◌, ◌||◌, not, is_some, nat_eq, IfOk, OnOk, OnErr};
-ghost use Rattle.std.specs.List.{list_any};
+ghost use Rattle.std.specs.Prelude.{◌≡◌, not, IfOk, OnOk, OnErr};
+ghost use Rattle.std.specs.List.Sorted.{IsNonDecreasing};
 ghost use Rattle.std.specs.Option.{option_copied};
-ghost use Rattle.std.specs.Map.{keys_of, values_of};
 ghost use Rattle.std.specs.FinMap as map;
-ghost use Rattle.doc_model.specs.declared.key.DocKey.{DocKey};
-ghost use Rattle.doc_model.specs.Keys.{is_among, BeginsAt};
+ghost use Rattle.doc_model.specs.Keys.{is_in};
 
+use crate::dropping::{remove_others, remove_slots};
 use crate::key::DocKey;
 use crate::slot::{Slot, slot_of};
-use kv_edge::{Bytes, Copied, NoMemory, Seq};
+use kv_edge::{Copied, NoMemory};
 use std::alloc::Global;
 use std::collections::BTreeMap;
-use std::collections::btree_map::Range;
 use std::marker::Model;
 use std::mem;
 
@@ -68,13 +66,6 @@ impl<V> KeyMap<V> {
         self.others.get(key)
     }
 
-    /// Whether the key has something.
-    pub fn contains_key(&self, key: &DocKey) -> bool
-        ensures { result ≡ is_some (map.get self.now key.now) }
-    {
-        self.get(key).is_some()
-    }
-
     /// Sets what the key has, and answers what it had. The key is copied unless it stands in its slot. At `Err` the map is
     /// as before, and the new value is dropped.
     pub fn insert(&mut self, alloc: Global, key: &DocKey, value: V) -> Result<Option<V>, NoMemory>
@@ -116,88 +107,16 @@ impl<V> KeyMap<V> {
         elsewhere
     }
 
-    /// Takes away what each of the keys has.
-    pub fn remove_all(&mut self, keys: &[DocKey])
+    /// Takes away what the keys of these collections have, whose ids stand from the least to the greatest. It takes no
+    /// memory. It costs a look-up for each key that stands in its slot, and a step for each key, of whatever collection,
+    /// that found its slot taken.
+    pub fn remove_collections(&mut self, collections: &[u32])
     where
         V: Drop,
-        ensures { self.new ≡ map.retain_keys self.old (λ key. not (is_among keys.now key)) }
+        requires { IsNonDecreasing collections.now }
+        ensures { self.new ≡ map.retain_keys self.old (λ key. not (is_in collections.now key)) }
     {
-        for key in keys {
-            self.remove(key);
-        }
+        remove_slots(&mut self.slots, collections);
+        remove_others(&mut self.others, collections);
     }
-
-    /// The keys of these collections that have something. For each collection it takes a look-up and a step for each of
-    /// its keys, and no walk over the others.
-    pub fn keys_in(&self, alloc: Global, collections: &[u32]) -> Result<Seq<DocKey>, NoMemory>
-        ensures { IfOk result (λ keys. (key : DocKey) → is_among keys key ≡ (list_any (nat_eq key.collection) collections.now && is_some (map.get self.now key))) }
-    {
-        let mut keys = Seq::new(alloc);
-        for collection in collections {
-            self.add_keys(alloc, *collection, &mut keys)?;
-        }
-        Ok(keys)
-    }
-
-    /// Adds the keys of a collection that have something. At `Err` some of them may have been added.
-    fn add_keys(
-        &self,
-        alloc: Global,
-        collection: u32,
-        keys: &mut Seq<DocKey>,
-    ) -> Result<(), NoMemory>
-        ensures { OnOk result ((key : DocKey) → is_among keys.new key ≡ (is_among keys.old key || (nat_eq key.collection collection && is_some (map.get self.now key)))) }
-    {
-        let first = Slot {
-            collection,
-            hash: 0,
-        };
-        copy_held(alloc, self.slots.range(first..), collection, keys)?;
-        let first = DocKey {
-            collection,
-            key: Bytes::new(alloc),
-        };
-        copy_keys(alloc, self.others.range(first..), collection, keys)
-    }
-}
-
-/// Adds copies of the keys that are of a collection and stand in these slots, which begin at it. At `Err` some of them
-/// may have been added.
-fn copy_held<V>(
-    alloc: Global,
-    entries: Range<'_, Slot, (DocKey, V)>,
-    collection: u32,
-    keys: &mut Seq<DocKey>,
-) -> Result<(), NoMemory>
-    requires { BeginsAt collection (keys_of (values_of entries)) }
-    ensures { OnOk result ((key : DocKey) → is_among keys.new key ≡ (is_among keys.old key || (nat_eq key.collection collection && is_among (keys_of (values_of entries.entry)) key))) }
-{
-    for (_, entry) in entries {
-        // the slots of a collection stand next to each other
-        if entry.0.collection != collection {
-            return Ok(());
-        }
-        keys.push(entry.0.copy(alloc)?)?;
-    }
-    Ok(())
-}
-
-/// Adds copies of the keys that are of a collection, where the entries begin at it. At `Err` some of them may have
-/// been added.
-fn copy_keys<V>(
-    alloc: Global,
-    entries: Range<'_, DocKey, V>,
-    collection: u32,
-    keys: &mut Seq<DocKey>,
-) -> Result<(), NoMemory>
-    requires { BeginsAt collection (keys_of entries) }
-    ensures { OnOk result ((key : DocKey) → is_among keys.new key ≡ (is_among keys.old key || (nat_eq key.collection collection && is_among (keys_of entries.entry) key))) }
-{
-    for (key, _) in entries {
-        if key.collection != collection {
-            return Ok(());
-        }
-        keys.push(key.copy(alloc)?)?;
-    }
-    Ok(())
 }

@@ -4,8 +4,10 @@
 #![tactic(auto)]
 
 mod document;
+mod dropping;
 mod key;
 mod key_map;
+mod limits;
 mod numbers;
 mod slot;
 mod status;
@@ -13,6 +15,7 @@ mod status;
 pub use document::{Doc, Item, What};
 pub use key::DocKey;
 pub use key_map::KeyMap;
+pub use limits::{KEY_LIMIT, MANIFEST_LIMIT, OTHER_KEY_LIMIT, VALUE_LIMIT, limit_numbers};
 pub use numbers::status_numbers;
 pub use status::{Refused, Status};
 
