@@ -10,7 +10,8 @@ use Rattle.kv_edge.specs.Fields.{IsBytes, number_at, bytes_at}
 use Rattle.kv_edge.proofs.Fields.{wide32, number_takes, number_again, bytes_take, bytes_again}
 use Rattle.manifest_rules.specs.declared.state.StateFault.{StateFault}
 use Rattle.manifest_rules.specs.declared.state.StateFault.TheVariants as fault
-use Rattle.manifest_rules.specs.declared.types.TheConstants.{DROPPED_LIMIT, TEXT_LIMIT}
+use Rattle.manifest_rules.specs.declared.types.TheConstants.{DROPPED_LIMIT}
+use Rattle.doc_model.specs.declared.limits.TheConstants.{MANIFEST_LIMIT}
 use Rattle.manifest_rules.specs.Catalog.{Catalog, scope_ids, collection_ids}
 use Rattle.manifest_rules.specs.Text.{text_of}
 use Rattle.manifest_rules.specs.State.{are_rising, is_sound, are_gone, is_kept, ids_bytes, text_bytes, state_of, IsAt, TextAt, CountAt, NoId, IdAt, IdsAt, TextBreaks, at_length, at_text, IdsBreak, at_count, at_id, IsTextFault, IsIdsFault, Breaks, in_text, in_scopes, in_collections, IsNoState}
@@ -30,18 +31,18 @@ same_number a b r s low high e = pair_is a b r s (sym (number_again w32 (2 ^ 32)
 
 -- ---- text
 
-pub text_cut : (bytes rest : List ℕ) (count : ℕ) → CountAt TEXT_LIMIT bytes count rest → bytes_at count rest ≡ None → TextBreaks bytes 4
+pub text_cut : (bytes rest : List ℕ) (count : ℕ) → CountAt MANIFEST_LIMIT bytes count rest → bytes_at count rest ≡ None → TextBreaks bytes 4
 text_cut bytes rest count at none =
     at_text count rest refl at.few at.front (λ m more h len e.
     let clash : None ≡ Some (let q : List ℕ × List ℕ = (text_of m, more) in q) = sym none ∙ ap₂ bytes_at (sym len) e ∙ bytes_again (text_of m) more in
     absurd (cc))
 
-pub text_other : (bytes rest text after : List ℕ) (count : ℕ) → CountAt TEXT_LIMIT bytes count rest → bytes_at count rest ≡ Some (text, after) → ((m : Catalog) → is_sound m ≡ true → text ≡ text_of m → ⊥) → TextBreaks bytes 4
+pub text_other : (bytes rest text after : List ℕ) (count : ℕ) → CountAt MANIFEST_LIMIT bytes count rest → bytes_at count rest ≡ Some (text, after) → ((m : Catalog) → is_sound m ≡ true → text ≡ text_of m → ⊥) → TextBreaks bytes 4
 text_other bytes rest text after count at field none =
     at_text count rest refl at.few at.front (λ m more h len e.
     none m h (pair_is text (text_of m) after more (sym field ∙ ap₂ bytes_at (sym len) e ∙ bytes_again (text_of m) more)).0)
 
-pub text_found : (bytes rest text after : List ℕ) (count : ℕ) (m : Catalog) → IsBytes bytes → CountAt TEXT_LIMIT bytes count rest → bytes_at count rest ≡ Some (text, after) → is_sound m ≡ true → text_of m ≡ text → TextAt bytes m (4 + count)
+pub text_found : (bytes rest text after : List ℕ) (count : ℕ) (m : Catalog) → IsBytes bytes → CountAt MANIFEST_LIMIT bytes count rest → bytes_at count rest ≡ Some (text, after) → is_sound m ≡ true → text_of m ≡ text → TextAt bytes m (4 + count)
 text_found bytes rest text after count m fits at field sound is =
     let number = ap (number_at w32) at.front ∙ number_again w32 (2 ^ 32) wide32 count rest (let few = at.few in omega arith) in
     let t = bytes_take count rest text after (number_takes w32 (2 ^ 32) wide32 bytes count rest fits number).0.rest_fits field in
@@ -55,7 +56,7 @@ text_found bytes rest text after count m fits at field sound is =
 abbrev NoText : List ℕ → Type 0
 NoText bytes = (m : Catalog) (rest : List ℕ) → is_sound m ≡ true → bytes ≡ text_bytes m ++ rest → ⊥
 
-sound_limit : (m : Catalog) → is_sound m ≡ true → length (text_of m) ≤ TEXT_LIMIT
+sound_limit : (m : Catalog) → is_sound m ≡ true → length (text_of m) ≤ MANIFEST_LIMIT
 sound_limit m h = let sound = sound_parts m h in sound.short
 
 text_none : (bytes : List ℕ) (offset : ℕ) → TextBreaks bytes offset → NoText bytes

@@ -1,5 +1,5 @@
 -- Ids that were dropped, when more are.
-use Rattle.std.proofs.Common.{◌≡◌, ℕ, ◌<◌, Bool, true, false, cond, not, ◌||◌, nat_eq, nat_lt, filter, List, [], ◌∷◌, refl, sym, ap, ◌∙◌, arith, true≢false, lt-ltb, eq-eqb, inl, inr}
+use Rattle.std.proofs.Common.{◌≡◌, ℕ, ◌<◌, Bool, true, false, cond, not, ◌&&◌, ◌||◌, nat_eq, nat_lt, filter, List, [], ◌∷◌, refl, sym, ap, ◌∙◌, arith, true≢false, lt-ltb, eq-eqb, inl, inr}
 use Rattle.std.proofs.lemmas.Bool.{and_parts, and_from, or_cases, or_parts, ltb-false, eqb-true, eqb-false}
 use Rattle.std.specs.List.{list_all, list_any}
 use Rattle.manifest_rules.specs.Rules.{lost, with_id, with_ids}
@@ -34,7 +34,7 @@ filter-all p q (x ∷ xs) all = by (q x) (filter-all p q xs (and_parts (p x) _ a
 -- ---- order
 
 -- a number is below the first
-abbrev below_first : ℕ → List ℕ → Bool
+abbrev pub below_first : ℕ → List ℕ → Bool
 below_first x [] = true
 below_first x (y ∷ ys) = nat_lt x y
 
@@ -42,7 +42,7 @@ rising-cons : (x : ℕ) (xs : List ℕ) → below_first x xs ≡ true → are_ri
 rising-cons x [] first more = refl
 rising-cons x (y ∷ ys) first more = and_from (nat_lt x y) _ first more
 
-rising-parts : (x : ℕ) (xs : List ℕ) → are_rising (x ∷ xs) ≡ true → (below_first x xs ≡ true) × (are_rising xs ≡ true)
+pub rising-parts : (x : ℕ) (xs : List ℕ) → are_rising (x ∷ xs) ≡ true → (below_first x xs ≡ true) × (are_rising xs ≡ true)
 rising-parts x [] h = (refl, refl)
 rising-parts x (y ∷ ys) h = and_parts (nat_lt x y) _ h
 
@@ -165,3 +165,18 @@ not_there x ids gone none here = by (among x ids) refl
     by : (b : Bool) → among x ids ≡ b → among x ids ≡ false
     by true e = absurd (true≢false (sym here ∙ none_of (λ id. among id gone) ids none x e))
     by false e = e
+
+-- an id is among the lost ones where it is among the old ones and not among the new ones
+pub lost-is : (x : ℕ) (old new : List ℕ) → among x (lost old new) ≡ (among x old && not (among x new))
+lost-is x [] new = refl
+lost-is x (y ∷ ys) new = by (among y new) refl (nat_eq x y) refl (lost-is x ys new)
+  where
+    by : (b : Bool) → among y new ≡ b → (c : Bool) → nat_eq x y ≡ c → among x (lost ys new) ≡ (among x ys && not (among x new))
+        → among x (cond (not b) (y ∷ lost ys new) (lost ys new)) ≡ ((c || among x ys) && not (among x new))
+    by true e true f rest = lost-among x ys new here ∙ ap not (sym here)
+      where
+        here : among x new ≡ true
+        here = ap (λ z. among z new) (eqb-true x y f) ∙ e
+    by true e false f rest = rest
+    by false e true f rest = ap (λ c. c || among x (lost ys new)) f ∙ ap not (sym (ap (λ z. among z new) (eqb-true x y f) ∙ e))
+    by false e false f rest = ap (λ c. c || among x (lost ys new)) f ∙ rest

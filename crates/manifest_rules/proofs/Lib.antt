@@ -10,6 +10,7 @@ pub mod Outcomes
 pub mod Placed
 pub mod Gone
 pub mod Runs
+pub mod Back
 pub mod Equal
 pub mod Tree
 pub mod Plain

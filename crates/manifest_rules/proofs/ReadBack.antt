@@ -17,7 +17,8 @@ use Rattle.serde_json.proofs.Texts.{print-outline}
 use Rattle.kv_edge.specs.Fields.{◌>>=◌}
 use Rattle.manifest_rules.specs.declared.types.Scope.{Scope}
 use Rattle.manifest_rules.specs.declared.types.Collection.{Collection}
-use Rattle.manifest_rules.specs.declared.types.TheConstants.{COUNT_LIMIT, TEXT_LIMIT}
+use Rattle.manifest_rules.specs.declared.types.TheConstants.{COUNT_LIMIT}
+use Rattle.doc_model.specs.declared.limits.TheConstants.{MANIFEST_LIMIT}
 use Rattle.manifest_rules.specs.Catalog.{Catalog, scope_ids, collection_ids, collections_in, numbers_fit}
 use Rattle.manifest_rules.specs.Rules.{is_name, is_small, names_formed, scopes_distinct, collections_distinct, none_reserved, has_default_scope, default_is_in_place, obeys_alone}
 use Rattle.manifest_rules.specs.State.{is_sound, are_gone, is_kept}
@@ -195,7 +196,7 @@ all_fine uid scopes fits names =
 pub record Sound (m : Catalog) : Type 0 where
   pub small : m.uid < 2 ^ 64
   pub fine : list_all fine_scope m.scopes ≡ true
-  pub short : length (text_of m) ≤ TEXT_LIMIT
+  pub short : length (text_of m) ≤ MANIFEST_LIMIT
 
 pub sound_parts : (m : Catalog) → is_sound m ≡ true → Sound m
 sound_parts m h =
@@ -207,11 +208,11 @@ sound_parts m h =
     let alone3 = and_parts (names_formed m.scopes && scopes_distinct m.scopes && collections_distinct m.scopes) (none_reserved m.scopes) alone2.0 in
     let alone4 = and_parts (names_formed m.scopes && scopes_distinct m.scopes) (collections_distinct m.scopes) alone3.0 in
     let alone5 = and_parts (names_formed m.scopes) (scopes_distinct m.scopes) alone4.0 in
-    let sizes = and_parts (nat_le (length m.scopes) COUNT_LIMIT && nat_le (length (collections_in m.scopes)) COUNT_LIMIT) (nat_le (length (text_of m)) TEXT_LIMIT) second.1 in
+    let sizes = and_parts (nat_le (length m.scopes) COUNT_LIMIT && nat_le (length (collections_in m.scopes)) COUNT_LIMIT) (nat_le (length (text_of m)) MANIFEST_LIMIT) second.1 in
     record {
       small = ltb-true m.uid (2 ^ 64) (and_parts (nat_lt m.uid (2 ^ 64)) (list_all (λ s. nat_lt s.id (2 ^ 32)) m.scopes) numbers.0).0;
       fine = all_fine m.uid m.scopes second.0 alone5.0;
-      short = leb-true (length (text_of m)) TEXT_LIMIT sizes.1;
+      short = leb-true (length (text_of m)) MANIFEST_LIMIT sizes.1;
     }
 
 -- a manifest that obeys its own rules is read back, but for the ids that were dropped

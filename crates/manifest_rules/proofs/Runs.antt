@@ -1,5 +1,5 @@
 -- What holds along manifests that are applied one after another.
-use Rattle.std.proofs.Common.{◌≡◌, ℕ, ◌^◌, Bool, true, false, cond, not, ◌&&◌, nat_eq, nat_lt, nat_le, List, [], ◌∷◌, length, Ok, Err, refl, ap, ◌∙◌}
+use Rattle.std.proofs.Common.{◌≡◌, ℕ, ◌^◌, Bool, true, false, cond, not, ◌&&◌, nat_eq, nat_lt, nat_le, List, [], ◌∷◌, length, Some, Ok, Err, refl, ap, ◌∙◌, subst}
 use Rattle.std.proofs.lemmas.Bool.{and_parts, and_from, not-true}
 use Rattle.std.proofs.lemmas.List.Folds.{list_all-map}
 use Rattle.std.specs.Cmp.Lexicographic.{pointwise}
@@ -12,6 +12,8 @@ use Rattle.manifest_rules.specs.Catalog.{Catalog, scope_ids, collections_in, col
 use Rattle.manifest_rules.specs.Rules.{same_scope, lost, with_ids, is_small, obeys_alone, follows, few_dropped, none_revived, succeeding, obeys, manifest_step, first_catalog}
 use Rattle.manifest_rules.specs.State.{are_rising, is_sound, are_gone, is_kept}
 use Rattle.manifest_rules.specs.Laws.{left_by, run}
+use Rattle.manifest_rules.specs.declared.applying.Taken.{Taken}
+use Rattle.manifest_rules.specs.Applying.{bare, step_taken, ComesTo}
 use Rattle.manifest_rules.proofs.Fits.{list_all-both}
 use Rattle.manifest_rules.proofs.Gone.{among, share, with_ids-all, filter-all, with_ids-rising, apart, still_gone, not_there}
 
@@ -124,6 +126,10 @@ kept_successor old new h fits rules =
 
 pub kept_step : (old new : Catalog) → is_kept old ≡ true → numbers_fit new.uid new.scopes ≡ true → is_kept (left_by old (manifest_step old new)) ≡ true
 kept_step old new h fits = left_cases (λ m. is_kept m ≡ true) old new h (kept_successor old new h fits)
+
+-- what takes the place of a kept manifest is kept
+pub kept_taken : (old : Catalog) (uid : ℕ) (scopes : List Scope) (taken : Taken) → is_kept old ≡ true → numbers_fit uid scopes ≡ true → ComesTo old uid scopes (Some taken) → is_kept (step_taken old uid scopes (Some taken)).after ≡ true
+kept_taken old uid scopes taken kept fits comes = subst (λ m. is_kept m ≡ true) (ap (left_by old) comes) (kept_step old (bare uid scopes) kept fits)
 
 pub first_kept : is_kept first_catalog ≡ true
 unfolding digits

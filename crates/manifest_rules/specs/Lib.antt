@@ -7,3 +7,6 @@ pub mod Rules
 pub mod Paths
 pub mod State
 pub mod Laws
+pub mod Applying
+pub mod Parts
+pub mod Ids

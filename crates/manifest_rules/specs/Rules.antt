@@ -8,7 +8,8 @@ use Rattle.doc_model.specs.declared.status.Refused.TheVariants as refused
 use Rattle.doc_model.specs.declared.status.TheConstants.Status as status
 use Rattle.manifest_rules.specs.declared.types.Scope.{Scope}
 use Rattle.manifest_rules.specs.declared.types.Collection.{Collection}
-use Rattle.manifest_rules.specs.declared.types.TheConstants.{NAME_LIMIT, COUNT_LIMIT, DROPPED_LIMIT, TEXT_LIMIT}
+use Rattle.manifest_rules.specs.declared.types.TheConstants.{NAME_LIMIT, COUNT_LIMIT, DROPPED_LIMIT}
+use Rattle.doc_model.specs.declared.limits.TheConstants.{MANIFEST_LIMIT}
 use Rattle.manifest_rules.specs.Catalog.{Catalog, scope_ids, collections_in, collection_ids}
 use Rattle.manifest_rules.specs.Text.{text_of}
 
@@ -39,10 +40,14 @@ names_formed scopes = list_all (λ s. is_name s.name) scopes && list_all (λ c. 
 abbrev pub scopes_distinct : List Scope → Bool
 scopes_distinct scopes = are_distinct nat_eq (scope_ids scopes) && are_distinct same_name (map (λ s. s.name) scopes)
 
+-- no two collections of a scope share a name
+abbrev pub names_differ_in : Scope → Bool
+names_differ_in scope = are_distinct same_name (map (λ c. c.name) scope.collections)
+
 -- no two collections share an id, and no two of one scope a name
 abbrev pub collections_distinct : List Scope → Bool
 collections_distinct scopes =
-    are_distinct nat_eq (collection_ids scopes) && list_all (λ s. are_distinct same_name (map (λ c. c.name) s.collections)) scopes
+    are_distinct nat_eq (collection_ids scopes) && list_all names_differ_in scopes
 
 -- the ids 1 to 7 are kept for the system
 abbrev pub is_reserved : ℕ → Bool
@@ -63,7 +68,7 @@ default_is_in_place scopes =
 -- there aren't too many scopes and collections, and the text isn't too long
 abbrev pub is_small : Catalog → Bool
 is_small m =
-    nat_le (length m.scopes) COUNT_LIMIT && nat_le (length (collections_in m.scopes)) COUNT_LIMIT && nat_le (length (text_of m)) TEXT_LIMIT
+    nat_le (length m.scopes) COUNT_LIMIT && nat_le (length (collections_in m.scopes)) COUNT_LIMIT && nat_le (length (text_of m)) MANIFEST_LIMIT
 
 -- the rules on scopes and collections alone
 abbrev pub obeys_alone : List Scope → Bool

@@ -4,7 +4,8 @@ use Rattle.std.specs.List.{list_all, list_any, flat_map}
 use Rattle.std.specs.Int.{w32, to_be_bytes}
 use Rattle.manifest_rules.specs.declared.state.StateFault.{StateFault}
 use Rattle.manifest_rules.specs.declared.state.StateFault.TheVariants as fault
-use Rattle.manifest_rules.specs.declared.types.TheConstants.{DROPPED_LIMIT, TEXT_LIMIT}
+use Rattle.manifest_rules.specs.declared.types.TheConstants.{DROPPED_LIMIT}
+use Rattle.doc_model.specs.declared.limits.TheConstants.{MANIFEST_LIMIT}
 use Rattle.manifest_rules.specs.Catalog.{Catalog, scope_ids, collection_ids, numbers_fit}
 use Rattle.manifest_rules.specs.Text.{text_of}
 use Rattle.manifest_rules.specs.Rules.{is_small, obeys_alone}
@@ -87,8 +88,8 @@ pub record IdAt (present before bytes : List ℕ) (id : ℕ) (rest : List ℕ) :
 -- A text breaks off at an offset. Its fields are its length and itself: no length that a text may have stands at the
 -- front, or behind it no text of that length, of a manifest that obeys its own rules.
 pub data TextBreaks (bytes : List ℕ) (offset : ℕ) : Type 0 where
-  at_length : offset ≡ 0 → NoCount TEXT_LIMIT bytes → TextBreaks bytes offset
-  at_text : (count : ℕ) (rest : List ℕ) → offset ≡ 4 → count ≤ TEXT_LIMIT → bytes ≡ to_be_bytes w32 count ++ rest
+  at_length : offset ≡ 0 → NoCount MANIFEST_LIMIT bytes → TextBreaks bytes offset
+  at_text : (count : ℕ) (rest : List ℕ) → offset ≡ 4 → count ≤ MANIFEST_LIMIT → bytes ≡ to_be_bytes w32 count ++ rest
       → ((m : Catalog) (more : List ℕ) → IsTrue (is_sound m) → length (text_of m) ≡ count → rest ≡ text_of m ++ more → ⊥) → TextBreaks bytes offset
 
 -- Ids that may have been dropped where others are there break off at an offset. Their fields are their count and each of

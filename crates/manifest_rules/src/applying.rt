@@ -1,12 +1,16 @@
-ghost use Rattle.std.specs.Prelude.{◌≡◌, Some, None, Ok, IfOk, IfErr, OnErr, IsTrue, ◌&&◌, if◌then◌else◌};
+ghost use Rattle.std.specs.Prelude.{◌≡◌, [], false, Ok, IfOk, IfErr, IfSome, OnErr, IsTrue, ◌&&◌};
 ghost use Rattle.std.specs.Cmp.Lexicographic.{pointwise};
 ghost use Rattle.manifest_rules.specs.Catalog.{scope_ids, collection_ids};
-ghost use Rattle.manifest_rules.specs.Rules.{same_scope, is_small, obeys_alone, follows, lost, succeeding, obeys, manifest_step, IsRefusedStep};
+ghost use Rattle.manifest_rules.specs.Rules.{same_scope, is_small, obeys_alone, follows, obeys, manifest_step, IsRefusedStep};
+ghost use Rattle.manifest_rules.specs.Applying.{text_step, bare, ComesTo, BothRise, taken_of, taken_if};
 ghost use Rattle.manifest_rules.specs.State.{is_kept};
 
 use crate::following::follows;
 use crate::ids::{lost_ids, with_ids};
-use crate::manifest::{Manifest, dropped_collections, dropped_scopes, scopes, uid, with_dropped};
+use crate::manifest::{
+    Manifest, dropped_collections, dropped_scopes, manifest_of, scopes, uid, with_dropped,
+};
+use crate::reading::{Parts, read_parts};
 use crate::sound::{Ids, ids_of, obeys_itself};
 use crate::types::{DROPPED_LIMIT, Scope};
 use doc_model::{Refused, Status};
@@ -22,10 +26,14 @@ pub struct Dropped {
     pub changed: bool,
 }
 
-/// A manifest that takes the place of another, and the collections that are dropped by it.
+/// The ids that are dropped where a manifest takes the place of another.
 #[derive(Drop)]
-struct Next {
-    manifest: Manifest,
+pub(crate) struct Taken {
+    /// The ids of scopes that were ever dropped, in rising order.
+    scopes: Seq<u32>,
+    /// The ids of collections that were ever dropped, in rising order.
+    collections: Seq<u32>,
+    /// The ids of collections that are dropped by this manifest.
     dropped: Seq<u32>,
 }
 
@@ -37,26 +45,74 @@ pub fn apply(alloc: Global, old: &mut Manifest, new: Manifest) -> Result<Dropped
     ensures unchanged { OnErr result (old.new ≡ old.old) }
     ensures kept { IsTrue (is_kept old.old) → IsTrue (is_kept old.new) }
 {
-    if uid(&new) < uid(old) {
-        return Err(Refused::Status(Status::MANIFEST_IS_AHEAD));
-    }
-    if uid(&new) == uid(old) {
-        if are_same(scopes(old), scopes(&new)) {
-            return Ok(Dropped {
-                collections: Seq::new(alloc),
-                changed: false,
-            });
-        }
-        return Err(Refused::Status(Status::CANNOT_APPLY_MANIFEST));
-    }
-    match successor(alloc, old, new)? {
-        Some(Next { manifest, dropped }) => {
-            *old = manifest;
+    match outcome(alloc, old, uid(&new), scopes(&new))? {
+        Some(taken) => {
+            *old = with_dropped(new, taken.scopes, taken.collections);
             Ok(Dropped {
-                collections: dropped,
+                collections: taken.dropped,
                 changed: true,
             })
         }
+        None => Ok(nothing_dropped(alloc)),
+    }
+}
+
+/// Applies the manifest that bytes are over another. `EINVAL` where they are none, and else as `apply`. A manifest that is
+/// refused costs no more than its own text and a walk over the one that is there, which isn't copied. At `Err` the old
+/// manifest is as before.
+pub fn apply_text(alloc: Global, old: &mut Manifest, text: &[u8]) -> Result<Dropped, Refused>
+    ensures step { IfOk result (λ d. text_step old.old text.now ≡ Ok (record { after = old.new; dropped = d.collections; changed = d.changed })) }
+    ensures refused { IfErr result (IsRefusedStep (text_step old.old text.now)) }
+    ensures unchanged { OnErr result (old.new ≡ old.old) }
+    ensures kept { IsTrue (is_kept old.old) → IsTrue (is_kept old.new) }
+{
+    let Parts { uid, scopes } = read_parts(alloc, text)?;
+    match outcome(alloc, old, uid, scopes.as_slice())? {
+        Some(taken) => {
+            *old = manifest_of(alloc, uid, scopes, taken.scopes, taken.collections)?;
+            Ok(Dropped {
+                collections: taken.dropped,
+                changed: true,
+            })
+        }
+        None => Ok(nothing_dropped(alloc)),
+    }
+}
+
+/// What a manifest did that changes nothing.
+fn nothing_dropped(alloc: Global) -> Dropped
+    ensures collections { result.collections ≡ [] }
+    ensures changed { result.changed ≡ false }
+{
+    Dropped {
+        collections: Seq::new(alloc),
+        changed: false,
+    }
+}
+
+/// The ids that are dropped where a manifest of this uid and these scopes takes the place of another; none where it
+/// changes nothing. The status is the one that refuses it.
+fn outcome(
+    alloc: Global,
+    old: &Manifest,
+    new: u64,
+    scopes_after: &[Scope],
+) -> Result<Option<Taken>, Refused>
+    ensures taken { IfOk result (ComesTo old.now new scopes_after.now) }
+    ensures rising { IfOk result (λ taken. IfSome taken BothRise) }
+    ensures refused { IfErr result (IsRefusedStep (manifest_step old.now (bare new scopes_after.now))) }
+{
+    if new < uid(old) {
+        return Err(Refused::Status(Status::MANIFEST_IS_AHEAD));
+    }
+    if new == uid(old) {
+        if are_same(scopes(old), scopes_after) {
+            return Ok(None);
+        }
+        return Err(Refused::Status(Status::CANNOT_APPLY_MANIFEST));
+    }
+    match successor(alloc, old, new, scopes_after)? {
+        Some(taken) => Ok(Some(taken)),
         None => Err(Refused::Status(Status::CANNOT_APPLY_MANIFEST)),
     }
 }
@@ -68,14 +124,32 @@ fn are_same(old: &[Scope], new: &[Scope]) -> bool
     old == new
 }
 
-/// The manifest that a new one leaves where it obeys the rules.
-fn successor(alloc: Global, old: &Manifest, new: Manifest) -> Result<Option<Next>, NoMemory>
-    ensures { IfOk result (λ next. next ≡ (if obeys old.now new then Some (record { manifest = succeeding old.now new; dropped = lost (collection_ids old.now.scopes) (collection_ids new.scopes) }) else None)) }
+/// The ids that are dropped where a manifest of a greater uid obeys the rules.
+fn successor(
+    alloc: Global,
+    old: &Manifest,
+    new: u64,
+    scopes_after: &[Scope],
+) -> Result<Option<Taken>, NoMemory>
+    ensures taken { IfOk result (λ taken. taken ≡ taken_if (obeys old.now (bare new scopes_after.now)) old.now scopes_after.now) }
+    ensures rising { IfOk result (λ taken. IfSome taken BothRise) }
 {
-    let after = ids_of(alloc, scopes(&new))?;
-    if !is_allowed(alloc, old, &new, &after)? {
+    let after = ids_of(alloc, scopes_after)?;
+    if !is_allowed(alloc, old, new, scopes_after, &after)? {
         return Ok(None);
     }
+    let taken = dropped_by(alloc, old, &after)?;
+    if taken.scopes.len() > DROPPED_LIMIT || taken.collections.len() > DROPPED_LIMIT {
+        return Ok(None);
+    }
+    Ok(Some(taken))
+}
+
+/// The ids that are dropped where scopes and collections of these ids take the place of a manifest's.
+fn dropped_by(alloc: Global, old: &Manifest, after: &Ids) -> Result<Taken, NoMemory>
+    ensures taken { IfOk result (λ taken. taken ≡ taken_of old.now after.now.scopes.items after.now.collections.items) }
+    ensures rising { IfOk result BothRise }
+{
     let before = ids_of(alloc, scopes(old))?;
     let gone_scopes = lost_ids(alloc, before.scopes.as_slice(), after.scopes.as_slice())?;
     let gone = lost_ids(
@@ -85,27 +159,31 @@ fn successor(alloc: Global, old: &Manifest, new: Manifest) -> Result<Option<Next
     )?;
     let all_scopes = with_ids(alloc, dropped_scopes(old), gone_scopes.as_slice())?;
     let all = with_ids(alloc, dropped_collections(old), gone.as_slice())?;
-    if all_scopes.len() > DROPPED_LIMIT || all.len() > DROPPED_LIMIT {
-        return Ok(None);
-    }
-    Ok(Some(Next {
-        manifest: with_dropped(new, Seq::from_vec(all_scopes), Seq::from_vec(all)),
+    Ok(Taken {
+        scopes: Seq::from_vec(all_scopes),
+        collections: Seq::from_vec(all),
         dropped: Seq::from_vec(gone),
-    }))
+    })
 }
 
-/// Whether a new manifest with these ids obeys all rules but the limit on dropped ids.
-fn is_allowed(alloc: Global, old: &Manifest, new: &Manifest, ids: &Ids) -> Result<bool, NoMemory>
-    requires of_scopes { ids.now.scopes.items ≡ scope_ids new.now.scopes }
-    requires of_collections { ids.now.collections.items ≡ collection_ids new.now.scopes }
-    ensures { IfOk result (λ b. b ≡ (is_small new.now && obeys_alone new.now.scopes && follows old.now new.now.scopes)) }
+/// Whether a manifest of this uid and these scopes, with these ids, obeys all rules but the limit on dropped ids.
+fn is_allowed(
+    alloc: Global,
+    old: &Manifest,
+    new: u64,
+    scopes_after: &[Scope],
+    ids: &Ids,
+) -> Result<bool, NoMemory>
+    requires of_scopes { ids.now.scopes.items ≡ scope_ids scopes_after.now }
+    requires of_collections { ids.now.collections.items ≡ collection_ids scopes_after.now }
+    ensures { IfOk result (λ b. b ≡ (is_small (bare new scopes_after.now) && obeys_alone scopes_after.now && follows old.now scopes_after.now)) }
 {
-    if !obeys_itself(alloc, new, ids)? {
+    if !obeys_itself(alloc, new, scopes_after, ids)? {
         return Ok(false);
     }
     Ok(follows(
         old,
-        scopes(new),
+        scopes_after,
         ids.scopes.as_slice(),
         ids.collections.as_slice(),
     ))

@@ -1,25 +1,26 @@
-ghost use Rattle.std.specs.Prelude.{◌≡◌, ◌≤◌, ◌++◌, nat_eq, nat_lt, map, length, IfOk, OnOk};
-ghost use Rattle.std.specs.List.{list_any, prefix_len};
+ghost use Rattle.std.specs.Prelude.{◌≡◌, ◌++◌, nat_eq, map, IsTrue, IfOk, OnOk};
+ghost use Rattle.std.specs.List.{list_any};
 ghost use Rattle.std.specs.List.Sorted.{IsNonDecreasing, IsPermutation};
 ghost use Rattle.manifest_rules.specs.Catalog.{scope_ids, collection_ids};
-ghost use Rattle.manifest_rules.specs.Rules.{lost, with_id, with_ids as with_all};
+ghost use Rattle.manifest_rules.specs.Rules.{lost, with_ids as with_all};
+ghost use Rattle.manifest_rules.specs.Ids.{SameIds, IsPassed};
+ghost use Rattle.manifest_rules.specs.State.{are_rising};
 
 use crate::types::Scope;
 use kv_edge::NoMemory;
 use std::alloc::Global;
 
-/// Whether an id is among others.
-pub(crate) fn has_id(ids: &[u32], id: u32) -> bool
-    ensures { result ≡ list_any (nat_eq id) ids.now }
-{
-    ids.iter().any(|other| id == *other)
-}
-
-/// Whether one of the ids is among others.
+/// Whether one of the ids is among others, which rise.
 pub(crate) fn share_id(ids: &[u32], others: &[u32]) -> bool
+    requires { IsTrue (are_rising others.now) }
     ensures { result ≡ list_any (λ id. list_any (nat_eq id) others.now) ids.now }
 {
-    ids.iter().any(|id| has_id(others, *id))
+    for id in ids {
+        if is_among_sorted(others, *id) {
+            return true;
+        }
+    }
+    false
 }
 
 /// A copy of ids from the least to the greatest.
@@ -76,9 +77,18 @@ fn add_ids(ids: &mut Vec<u32>, scope: &Scope) -> Result<(), NoMemory>
 pub(crate) fn lost_ids(alloc: Global, ids: &[u32], others: &[u32]) -> Result<Vec<u32>, NoMemory>
     ensures { IfOk result (λ found. found.items ≡ lost ids.now others.now) }
 {
+    let others = sorted(alloc, others)?;
+    Ok(lost_to(alloc, ids, others.as_slice())?)
+}
+
+/// The ids that aren't among others, which stand from the least to the greatest.
+fn lost_to(alloc: Global, ids: &[u32], others: &[u32]) -> Result<Vec<u32>, NoMemory>
+    requires { IsNonDecreasing others.now }
+    ensures { IfOk result (λ found. found.items ≡ lost ids.now others.now) }
+{
     let mut found = Vec::new(alloc);
     for id in ids {
-        if !has_id(others, *id) {
+        if !is_among_sorted(others, *id) {
             found.push(*id)?;
         }
     }
@@ -87,35 +97,54 @@ pub(crate) fn lost_ids(alloc: Global, ids: &[u32], others: &[u32]) -> Result<Vec
 
 /// A copy of ids in rising order, with others added.
 pub(crate) fn with_ids(alloc: Global, ids: &[u32], others: &[u32]) -> Result<Vec<u32>, NoMemory>
+    requires { IsTrue (are_rising ids.now) }
+    ensures value { IfOk result (λ all. all.items ≡ with_all others.now ids.now) }
+    ensures rising { IfOk result (λ all. IsTrue (are_rising all.items)) }
+{
+    let others = rising(alloc, others)?;
+    Ok(merged(alloc, ids, others.as_slice())?)
+}
+
+/// The ids in rising order, each once.
+fn rising(alloc: Global, ids: &[u32]) -> Result<Vec<u32>, NoMemory>
+    ensures rising { IfOk result (λ rising. IsTrue (are_rising rising.items)) }
+    ensures same { IfOk result (λ rising. SameIds rising.items ids.now) }
+{
+    let mut rising = Vec::from_slice(alloc, ids)?;
+    rising.sort_unstable();
+    rising.dedup();
+    Ok(rising)
+}
+
+/// The ids of two lists in rising order, each once.
+fn merged(alloc: Global, ids: &[u32], others: &[u32]) -> Result<Vec<u32>, NoMemory>
+    requires { IsTrue (are_rising others.now) }
     ensures { IfOk result (λ all. all.items ≡ with_all others.now ids.now) }
 {
-    let mut all = Vec::from_slice(alloc, ids)?;
-    for other in others {
-        insert_id(&mut all, *other)?;
+    let mut all = Vec::new(alloc);
+    let mut left = others;
+    for id in ids {
+        left = add_below(&mut all, left, *id)?;
+        all.push(*id)?;
     }
+    all.extend_from_slice(left)?;
     Ok(all)
 }
 
-/// Adds an id to ids in rising order.
-fn insert_id(ids: &mut Vec<u32>, id: u32) -> Result<(), NoMemory>
-    ensures { OnOk result (ids.new.items ≡ with_id id ids.old.items) }
+/// Adds those of the ids in rising order that are below one, and answers those above it.
+fn add_below<'i>(all: &mut Vec<u32>, ids: &'i [u32], id: u32) -> Result<&'i [u32], NoMemory>
+    requires { IsTrue (are_rising ids.now) }
+    ensures { IfOk result (λ left. IsPassed id ids.now left.now all.old.items all.new.items) }
 {
-    let at = first_not_below(ids, id);
-    if at == ids.len() || ids[at] != id {
-        ids.insert(at, id)?;
-    }
-    Ok(())
-}
-
-/// Where the first id stands that isn't below another, or the length where there is none.
-fn first_not_below(ids: &[u32], id: u32) -> usize
-    ensures value { result ≡ prefix_len (λ x. nat_lt x id) ids.now }
-    ensures within { result ≤ length ids.now }
-{
-    for (at, other) in ids.iter().enumerate() {
-        if *other >= id {
-            return at;
+    let mut left = ids;
+    while let [first, rest @ ..] = left {
+        if *first > id {
+            return Ok(left);
         }
+        if *first < id {
+            all.push(*first)?;
+        }
+        left = rest;
     }
-    ids.len()
+    Ok(left)
 }

@@ -70,16 +70,16 @@ mod state;
 mod types;
 mod writing;
 
-pub use applying::{Dropped, apply};
+pub use applying::{Dropped, apply, apply_text};
 pub use laws::{
-    equal_changes_nothing, kept_stays_kept, no_id_comes_back, one_broken_place, state_is_read_back,
-    text_is_read_back,
+    dropped_ids_are_the_lost, equal_changes_nothing, kept_stays_kept, manifest_numbers,
+    no_id_comes_back, one_broken_place, state_is_read_back, text_is_read_back,
 };
 pub use manifest::{Manifest, dropped_collections, dropped_scopes, first, has, max_ttl, uid};
 pub use paths::{collection_of, scope_of};
 pub use reading::read_manifest;
 pub use state::{StateFault, read_state, state_into};
-pub use types::{COUNT_LIMIT, Collection, DROPPED_LIMIT, NAME_LIMIT, Scope, TEXT_LIMIT};
+pub use types::{COUNT_LIMIT, Collection, DROPPED_LIMIT, NAME_LIMIT, Scope};
 pub use writing::text;
 
 #[cfg(test)]

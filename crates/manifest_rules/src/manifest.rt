@@ -1,14 +1,16 @@
-ghost use Rattle.std.specs.Prelude.{◌≡◌, ◌∷◌, [], ℕ, nat_eq, is_some, IfOk, OnOk, IsTrue};
+ghost use Rattle.std.specs.Prelude.{◌≡◌, ◌∷◌, [], ℕ, is_some, IfOk, OnOk, IsTrue};
 ghost use Rattle.std.specs.Option.{option_or};
-ghost use Rattle.indexmap.specs.IndexMap.{get};
+ghost use Rattle.std.specs.BTreeMap.{get};
+ghost use Rattle.std.specs.Ordering.{nat_cmp};
 ghost use Rattle.manifest_rules.specs.Catalog.{numbers_fit, collections_in, collection_at, max_ttl_of};
 ghost use Rattle.manifest_rules.specs.Rules.{first_catalog};
 ghost use Rattle.manifest_rules.specs.Lifetimes.{ttl_in, HasLifetimes};
+ghost use Rattle.manifest_rules.specs.State.{are_rising};
 
 use crate::types::{Collection, Scope};
-use indexmap::IndexMap;
 use kv_edge::{Bytes, Copied, NoMemory, Seq};
 use std::alloc::Global;
+use std::collections::BTreeMap;
 use std::marker::Model;
 
 /// A manifest: its uid, its scopes and collections, and the ids that were ever dropped.
@@ -21,19 +23,21 @@ pub struct Manifest {
     /// In rising order.
     dropped_collections: Seq<u32>,
     /// The greatest lifetime of each collection, by id.
-    lifetimes: IndexMap<u32, u32>,
+    lifetimes: BTreeMap<u32, u32>,
 }
 
 impl Model for Manifest {
     ghost use Rattle.std.specs.Prelude.{IsTrue};
     ghost use Rattle.manifest_rules.specs.Catalog.{Catalog, numbers_fit, collections_in};
     ghost use Rattle.manifest_rules.specs.Lifetimes.{HasLifetimes};
+    ghost use Rattle.manifest_rules.specs.State.{are_rising};
 
     ghost Value = { Catalog };
 
     ghost view = { λ m. record { uid = m.uid; scopes = m.scopes; dropped_scopes = m.dropped_scopes; dropped_collections = m.dropped_collections } };
 
-    ghost invariant = { λ m. IsTrue (numbers_fit m.uid m.scopes) × HasLifetimes m.lifetimes (collections_in m.scopes) };
+    ghost invariant = { λ m. IsTrue (numbers_fit m.uid m.scopes) × HasLifetimes m.lifetimes (collections_in m.scopes)
+        × IsTrue (are_rising m.dropped_scopes) × IsTrue (are_rising m.dropped_collections) };
 }
 
 impl Copied for Manifest {
@@ -60,7 +64,9 @@ pub(crate) fn manifest_of(
     dropped_scopes: Seq<u32>,
     dropped_collections: Seq<u32>,
 ) -> Result<Manifest, NoMemory>
-    requires { IsTrue (numbers_fit uid scopes) }
+    requires fits { IsTrue (numbers_fit uid scopes) }
+    requires scopes_rise { IsTrue (are_rising dropped_scopes) }
+    requires collections_rise { IsTrue (are_rising dropped_collections) }
     ensures { IfOk result (λ m. m ≡ record { uid = uid; scopes = scopes; dropped_scopes = dropped_scopes; dropped_collections = dropped_collections }) }
 {
     let lifetimes = lifetimes_of(alloc, scopes.as_slice())?;
@@ -74,10 +80,10 @@ pub(crate) fn manifest_of(
 }
 
 /// The greatest lifetimes of the collections of all scopes, by id. Where an id comes twice, the first counts.
-fn lifetimes_of(alloc: Global, scopes: &[Scope]) -> Result<IndexMap<u32, u32>, NoMemory>
+fn lifetimes_of(alloc: Global, scopes: &[Scope]) -> Result<BTreeMap<u32, u32>, NoMemory>
     ensures { IfOk result (λ m. HasLifetimes m (collections_in scopes.now)) }
 {
-    let mut lifetimes = IndexMap::new(alloc);
+    let mut lifetimes = BTreeMap::new(alloc);
     for scope in scopes {
         add_lifetimes(&mut lifetimes, scope.collections.as_slice())?;
     }
@@ -86,10 +92,10 @@ fn lifetimes_of(alloc: Global, scopes: &[Scope]) -> Result<IndexMap<u32, u32>, N
 
 /// Adds the lifetimes of collections whose ids aren't there yet.
 fn add_lifetimes(
-    lifetimes: &mut IndexMap<u32, u32>,
+    lifetimes: &mut BTreeMap<u32, u32>,
     collections: &[Collection],
 ) -> Result<(), NoMemory>
-    ensures { OnOk result ((id : ℕ) → get nat_eq lifetimes.new id ≡ option_or (get nat_eq lifetimes.old id) (ttl_in collections.now id)) }
+    ensures { OnOk result ((id : ℕ) → get nat_cmp lifetimes.new id ≡ option_or (get nat_cmp lifetimes.old id) (ttl_in collections.now id)) }
 {
     for collection in collections {
         add_lifetime(lifetimes, collection)?;
@@ -98,8 +104,8 @@ fn add_lifetimes(
 }
 
 /// Adds the lifetime of a collection whose id isn't there yet.
-fn add_lifetime(lifetimes: &mut IndexMap<u32, u32>, collection: &Collection) -> Result<(), NoMemory>
-    ensures { OnOk result ((id : ℕ) → get nat_eq lifetimes.new id ≡ option_or (get nat_eq lifetimes.old id) (ttl_in (collection.now ∷ []) id)) }
+fn add_lifetime(lifetimes: &mut BTreeMap<u32, u32>, collection: &Collection) -> Result<(), NoMemory>
+    ensures { OnOk result ((id : ℕ) → get nat_cmp lifetimes.new id ≡ option_or (get nat_cmp lifetimes.old id) (ttl_in (collection.now ∷ []) id)) }
 {
     if lifetimes.get(&collection.id).is_none() {
         lifetimes.insert(collection.id, collection.max_ttl)?;
@@ -136,14 +142,16 @@ pub fn uid(manifest: &Manifest) -> u64
 
 /// The ids of scopes that were ever dropped, in rising order.
 pub fn dropped_scopes(manifest: &Manifest) -> &[u32]
-    ensures { result.now ≡ manifest.now.dropped_scopes }
+    ensures value { result.now ≡ manifest.now.dropped_scopes }
+    ensures rising { IsTrue (are_rising result.now) }
 {
     manifest.dropped_scopes.as_slice()
 }
 
 /// The ids of collections that were ever dropped, in rising order.
 pub fn dropped_collections(manifest: &Manifest) -> &[u32]
-    ensures { result.now ≡ manifest.now.dropped_collections }
+    ensures value { result.now ≡ manifest.now.dropped_collections }
+    ensures rising { IsTrue (are_rising result.now) }
 {
     manifest.dropped_collections.as_slice()
 }
@@ -178,6 +186,8 @@ pub(crate) fn with_dropped(
     dropped_scopes: Seq<u32>,
     dropped_collections: Seq<u32>,
 ) -> Manifest
+    requires scopes_rise { IsTrue (are_rising dropped_scopes) }
+    requires collections_rise { IsTrue (are_rising dropped_collections) }
     ensures { result ≡ record { uid = manifest.uid; scopes = manifest.scopes; dropped_scopes = dropped_scopes; dropped_collections = dropped_collections } }
 {
     let Manifest {

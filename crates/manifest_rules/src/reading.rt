@@ -1,7 +1,9 @@
 ghost use Rattle.std.specs.Prelude.{◌≡◌, ◌≤◌, Some, option_map, IfOk, IfErr};
 ghost use Rattle.std.specs.Str.{IsUtf8};
 ghost use Rattle.serde_json.specs.View.{view, items_view};
-ghost use Rattle.manifest_rules.specs.Form.{hex_number, text_at, id_at, items_at, lifetime_in, each_from, collection_from as collection_of, scope_from as scope_of, catalog_from, catalog_in, IsNoManifest};
+ghost use Rattle.manifest_rules.specs.Form.{hex_number, text_at, id_at, items_at, lifetime_in, each_from};
+ghost use Rattle.manifest_rules.specs.Form.{collection_from as collection_of, scope_from as scope_of, catalog_in, IsNoManifest};
+ghost use Rattle.manifest_rules.specs.Parts.{AreParts, AreReadFrom};
 ghost use Rattle.manifest_rules.specs.Reading.{member_lifetime, collection_with, scope_parts, catalog_parts};
 
 use crate::manifest::{Manifest, manifest_of};
@@ -17,9 +19,25 @@ const ID_DIGITS: usize = 8;
 /// How many hexadecimal digits the uid of a manifest has at most.
 const UID_DIGITS: usize = 16;
 
+/// The uid and the scopes of a manifest that was read.
+#[derive(Drop)]
+pub(crate) struct Parts {
+    pub(crate) uid: u64,
+    pub(crate) scopes: Seq<Scope>,
+}
+
 /// The manifest that bytes are. `EINVAL` where they are no text of JSON, or the text hasn't the form of a manifest.
 pub fn read_manifest(alloc: Global, bytes: &[u8]) -> Result<Manifest, Refused>
     ensures found { IfOk result (λ m. IsUtf8 bytes.now × (catalog_in bytes.now ≡ Some m)) }
+    ensures refused { IfErr result (IsNoManifest bytes.now) }
+{
+    let Parts { uid, scopes } = read_parts(alloc, bytes)?;
+    Ok(manifest_of(alloc, uid, scopes, Seq::new(alloc), Seq::new(alloc))?)
+}
+
+/// The uid and the scopes of the manifest that bytes are. `EINVAL` as where a manifest is read.
+pub(crate) fn read_parts(alloc: Global, bytes: &[u8]) -> Result<Parts, Refused>
+    ensures found { IfOk result (AreReadFrom bytes.now) }
     ensures refused { IfErr result (IsNoManifest bytes.now) }
 {
     let value = match Value::from_slice(alloc, bytes) {
@@ -31,28 +49,22 @@ pub fn read_manifest(alloc: Global, bytes: &[u8]) -> Result<Manifest, Refused>
             return Err(Refused::Status(Status::EINVAL));
         }
     };
-    match manifest_from(alloc, &value)? {
-        Some(manifest) => Ok(manifest),
+    match parts_from(alloc, &value)? {
+        Some(parts) => Ok(parts),
         None => Err(Refused::Status(Status::EINVAL)),
     }
 }
 
-/// The manifest that a value is.
-fn manifest_from(alloc: Global, value: &Value) -> Result<Option<Manifest>, NoMemory>
-    ensures { IfOk result (λ m. m ≡ catalog_from (view value.now)) }
+/// The uid and the scopes of the manifest that a value is.
+fn parts_from(alloc: Global, value: &Value) -> Result<Option<Parts>, NoMemory>
+    ensures { IfOk result (AreParts (view value.now)) }
 {
     let (uid, items) = match manifest_parts(value) {
         Some(parts) => parts,
         None => return Ok(None),
     };
     match scopes_from(alloc, items)? {
-        Some(scopes) => Ok(Some(manifest_of(
-            alloc,
-            uid,
-            scopes,
-            Seq::new(alloc),
-            Seq::new(alloc),
-        )?)),
+        Some(scopes) => Ok(Some(Parts { uid, scopes })),
         None => Ok(None),
     }
 }

@@ -1,29 +1,41 @@
-ghost use Rattle.std.specs.Prelude.{◌≡◌, nat_eq, ◌&&◌, ◌||◌, not, map, codes};
+ghost use Rattle.std.specs.Prelude.{◌≡◌, nat_eq, ◌&&◌, ◌||◌, not, map, codes, IfOk};
 ghost use Rattle.std.specs.List.{list_all, list_any};
 ghost use Rattle.manifest_rules.specs.Catalog.{scope_ids, collection_ids};
-ghost use Rattle.manifest_rules.specs.Rules.{same_name, obeys_alone, is_name_byte, is_name, are_distinct, names_formed, scopes_distinct, collections_distinct, is_reserved, none_reserved, has_default_scope, default_is_in_place, scopes_keep_names, collections_stay, lost};
+ghost use Rattle.manifest_rules.specs.Rules.{same_name, obeys_alone, is_name_byte, is_name, are_distinct, names_formed};
+ghost use Rattle.manifest_rules.specs.Rules.{scopes_distinct, collections_distinct, names_differ_in, is_reserved};
+ghost use Rattle.manifest_rules.specs.Rules.{has_default_scope, default_is_in_place};
 
-use crate::ids::has_id;
 use crate::types::{Collection, NAME_LIMIT, Scope};
-use kv_edge::NoMemory;
+use kv_edge::{Copied, NoMemory};
 use std::alloc::Global;
+use std::collections::BTreeSet;
 
 /// The name of what is there from the beginning.
 const DEFAULT: &[u8] = b"_default";
 
 /// Whether a manifest of these scopes, with these ids of scopes and collections, obeys the rules that don't speak of
 /// another manifest.
-pub(crate) fn obeys_alone(scopes: &[Scope], scopes_by_id: &[u32], collections_by_id: &[u32]) -> bool
+pub(crate) fn obeys_alone(
+    alloc: Global,
+    scopes: &[Scope],
+    scopes_by_id: &[u32],
+    collections_by_id: &[u32],
+) -> Result<bool, NoMemory>
     requires of_scopes { scopes_by_id.now ≡ scope_ids scopes.now }
     requires of_collections { collections_by_id.now ≡ collection_ids scopes.now }
-    ensures { result ≡ obeys_alone scopes.now }
+    ensures { IfOk result (λ b. b ≡ obeys_alone scopes.now) }
 {
-    are_named(scopes)
-        && scopes_distinct(scopes, scopes_by_id)
-        && collections_distinct(scopes, collections_by_id)
+    let formed = are_named(scopes)
         && none_reserved(scopes_by_id, collections_by_id)
         && has_default(scopes)
-        && all_default_in_place(scopes)
+        && all_default_in_place(scopes);
+    if !formed {
+        return Ok(false);
+    }
+    if !scopes_distinct(alloc, scopes, scopes_by_id)? {
+        return Ok(false);
+    }
+    collections_distinct(alloc, scopes, collections_by_id)
 }
 
 /// Whether the names of scopes and collections have their form.
@@ -34,19 +46,25 @@ fn are_named(scopes: &[Scope]) -> bool
 }
 
 /// Whether no two scopes share an id or a name.
-fn scopes_distinct(scopes: &[Scope], ids: &[u32]) -> bool
+fn scopes_distinct(alloc: Global, scopes: &[Scope], ids: &[u32]) -> Result<bool, NoMemory>
     requires { ids.now ≡ scope_ids scopes.now }
-    ensures { result ≡ scopes_distinct scopes.now }
+    ensures { IfOk result (λ b. b ≡ scopes_distinct scopes.now) }
 {
-    ids_differ(ids) && scopes_differ(scopes)
+    if !ids_differ(alloc, ids)? {
+        return Ok(false);
+    }
+    scopes_differ(alloc, scopes)
 }
 
 /// Whether no two collections share an id, and no two of one scope a name.
-fn collections_distinct(scopes: &[Scope], ids: &[u32]) -> bool
+fn collections_distinct(alloc: Global, scopes: &[Scope], ids: &[u32]) -> Result<bool, NoMemory>
     requires { ids.now ≡ collection_ids scopes.now }
-    ensures { result ≡ collections_distinct scopes.now }
+    ensures { IfOk result (λ b. b ≡ collections_distinct scopes.now) }
 {
-    ids_differ(ids) && all_collections_differ(scopes)
+    if !ids_differ(alloc, ids)? {
+        return Ok(false);
+    }
+    all_collections_differ(alloc, scopes)
 }
 
 /// Whether no id is kept for the system.
@@ -73,12 +91,15 @@ fn all_collections_named(scopes: &[Scope]) -> bool
 }
 
 /// Whether no two collections of one scope share a name.
-fn all_collections_differ(scopes: &[Scope]) -> bool
-    ensures { result ≡ list_all (λ s. are_distinct same_name (map (λ c. c.name) s.collections)) scopes.now }
+fn all_collections_differ(alloc: Global, scopes: &[Scope]) -> Result<bool, NoMemory>
+    ensures { IfOk result (λ b. b ≡ list_all names_differ_in scopes.now) }
 {
-    scopes
-        .iter()
-        .all(|scope| collections_differ(scope.collections.as_slice()))
+    for scope in scopes {
+        if !collections_differ(alloc, scope.collections.as_slice())? {
+            return Ok(false);
+        }
+    }
+    Ok(true)
 }
 
 /// Whether collection 0, if it is there, is `_default` in scope 0.
@@ -119,59 +140,42 @@ fn is_name_byte(byte: u8) -> bool
 }
 
 /// Whether each id comes once.
-fn ids_differ(ids: &[u32]) -> bool
-    ensures { result ≡ are_distinct nat_eq ids.now }
+fn ids_differ(alloc: Global, ids: &[u32]) -> Result<bool, NoMemory>
+    ensures { IfOk result (λ b. b ≡ are_distinct nat_eq ids.now) }
 {
-    let mut left = ids;
-    while let [id, rest @ ..] = left {
-        if has_id(rest, *id) {
-            return false;
+    let mut seen = BTreeSet::new(alloc);
+    for id in ids {
+        if !seen.insert(*id)? {
+            return Ok(false);
         }
-        left = rest;
     }
-    true
+    Ok(true)
 }
 
 /// Whether each scope has a name of its own.
-fn scopes_differ(scopes: &[Scope]) -> bool
-    ensures { result ≡ are_distinct same_name (map (λ s. s.name) scopes.now) }
+fn scopes_differ(alloc: Global, scopes: &[Scope]) -> Result<bool, NoMemory>
+    ensures { IfOk result (λ b. b ≡ are_distinct same_name (map (λ s. s.name) scopes.now)) }
 {
-    for at in 0..scopes.len() {
-        let (_, later) = scopes.split_at(at + 1);
-        if is_name_of_scope(later, scopes[at].name.as_slice()) {
-            return false;
+    let mut seen = BTreeSet::new(alloc);
+    for scope in scopes {
+        if !seen.insert(scope.name.copy(alloc)?)? {
+            return Ok(false);
         }
     }
-    true
-}
-
-/// Whether one of the scopes has this name.
-fn is_name_of_scope(scopes: &[Scope], name: &[u8]) -> bool
-    ensures { result ≡ list_any (λ x. same_name name.now x.name) scopes.now }
-{
-    scopes.iter().any(|scope| name == scope.name.as_slice())
+    Ok(true)
 }
 
 /// Whether each collection of a scope has a name of its own.
-fn collections_differ(collections: &[Collection]) -> bool
-    ensures { result ≡ are_distinct same_name (map (λ c. c.name) collections.now) }
+fn collections_differ(alloc: Global, collections: &[Collection]) -> Result<bool, NoMemory>
+    ensures { IfOk result (λ b. b ≡ are_distinct same_name (map (λ c. c.name) collections.now)) }
 {
-    for at in 0..collections.len() {
-        let (_, later) = collections.split_at(at + 1);
-        if is_name_of_collection(later, collections[at].name.as_slice()) {
-            return false;
+    let mut seen = BTreeSet::new(alloc);
+    for collection in collections {
+        if !seen.insert(collection.name.copy(alloc)?)? {
+            return Ok(false);
         }
     }
-    true
-}
-
-/// Whether one of the collections has this name.
-fn is_name_of_collection(collections: &[Collection], name: &[u8]) -> bool
-    ensures { result ≡ list_any (λ x. same_name name.now x.name) collections.now }
-{
-    collections
-        .iter()
-        .any(|collection| name == collection.name.as_slice())
+    Ok(true)
 }
 
 /// Whether one of the ids is kept for the system.

@@ -1,12 +1,13 @@
 ghost use Rattle.std.specs.Prelude.{◌≡◌, ◌&&◌, length, IfOk};
 ghost use Rattle.manifest_rules.specs.Catalog.{scope_ids, collections_in, collection_ids};
+ghost use Rattle.manifest_rules.specs.Applying.{bare};
 ghost use Rattle.manifest_rules.specs.Rules.{is_small, obeys_alone};
 
 use crate::ids::{ids_of_collections, ids_of_scopes};
-use crate::manifest::{Manifest, scopes};
 use crate::rules::obeys_alone;
-use crate::types::{COUNT_LIMIT, Scope, TEXT_LIMIT};
-use crate::writing::text;
+use crate::types::{COUNT_LIMIT, Scope};
+use crate::writing::text_with;
+use doc_model::MANIFEST_LIMIT;
 use kv_edge::NoMemory;
 use std::alloc::Global;
 
@@ -28,31 +29,37 @@ pub(crate) fn ids_of(alloc: Global, scopes: &[Scope]) -> Result<Ids, NoMemory>
     })
 }
 
-/// Whether a manifest with these ids obeys the rules that don't speak of another manifest.
-pub(crate) fn obeys_itself(alloc: Global, manifest: &Manifest, ids: &Ids) -> Result<bool, NoMemory>
-    requires of_scopes { ids.now.scopes.items ≡ scope_ids manifest.now.scopes }
-    requires of_collections { ids.now.collections.items ≡ collection_ids manifest.now.scopes }
-    ensures { IfOk result (λ b. b ≡ (is_small manifest.now && obeys_alone manifest.now.scopes)) }
+/// Whether a manifest of this uid and these scopes, with these ids, obeys the rules that don't speak of another manifest.
+pub(crate) fn obeys_itself(
+    alloc: Global,
+    uid: u64,
+    scopes: &[Scope],
+    ids: &Ids,
+) -> Result<bool, NoMemory>
+    requires of_scopes { ids.now.scopes.items ≡ scope_ids scopes.now }
+    requires of_collections { ids.now.collections.items ≡ collection_ids scopes.now }
+    ensures { IfOk result (λ b. b ≡ (is_small (bare uid scopes.now) && obeys_alone scopes.now)) }
 {
-    // the limits come first, so that the rules that compare all pairs have few
-    if !is_small(alloc, manifest, ids.collections.len())? {
+    // the limits come first, so that the rules have few to look at
+    if !is_small(alloc, uid, scopes, ids.collections.len())? {
         return Ok(false);
     }
-    Ok(obeys_alone(
-        scopes(manifest),
+    obeys_alone(
+        alloc,
+        scopes,
         ids.scopes.as_slice(),
         ids.collections.as_slice(),
-    ))
+    )
 }
 
-/// Whether a manifest with so many collections keeps the limits.
-fn is_small(alloc: Global, manifest: &Manifest, collections: usize) -> Result<bool, NoMemory>
-    requires { collections ≡ length (collections_in manifest.now.scopes) }
-    ensures { IfOk result (λ b. b ≡ is_small manifest.now) }
+/// Whether a manifest of this uid and these scopes, with so many collections, keeps the limits.
+fn is_small(alloc: Global, uid: u64, scopes: &[Scope], collections: usize) -> Result<bool, NoMemory>
+    requires { collections ≡ length (collections_in scopes.now) }
+    ensures { IfOk result (λ b. b ≡ is_small (bare uid scopes.now)) }
 {
-    if scopes(manifest).len() > COUNT_LIMIT || collections > COUNT_LIMIT {
+    if scopes.len() > COUNT_LIMIT || collections > COUNT_LIMIT {
         return Ok(false);
     }
-    let text = text(alloc, manifest)?;
-    Ok(text.len() <= TEXT_LIMIT)
+    let text = text_with(alloc, uid, scopes)?;
+    Ok(text.len() <= MANIFEST_LIMIT)
 }

@@ -9,9 +9,9 @@ use crate::ids::{is_among_sorted, sorted};
 use crate::manifest::{Manifest, dropped_collections, dropped_scopes, scopes, uid, with_dropped};
 use crate::reading::read_manifest;
 use crate::sound::{ids_of, obeys_itself};
-use crate::types::{DROPPED_LIMIT, TEXT_LIMIT};
+use crate::types::DROPPED_LIMIT;
 use crate::writing::text;
-use doc_model::Refused;
+use doc_model::{MANIFEST_LIMIT, Refused};
 use kv_edge::{NoMemory, Seq, slice_at, u32_at};
 use std::alloc::{AllocFailed, Global};
 
@@ -99,7 +99,7 @@ fn read_text(alloc: Global, bytes: &[u8]) -> Result<(Manifest, usize), StateFaul
     ensures found { IfOk result (λ x. TextAt bytes.now x.0 x.1 × (x.0.dropped_scopes ≡ []) × (x.0.dropped_collections ≡ [])) }
     ensures breaks { IfErr result (IsTextFault bytes.now) }
 {
-    let (count, rest) = match count_at(bytes, TEXT_LIMIT) {
+    let (count, rest) = match count_at(bytes, MANIFEST_LIMIT) {
         Some(found) => found,
         None => return Err(StateFault::Bad(0)),
     };
@@ -159,9 +159,8 @@ fn is_text(alloc: Global, manifest: &Manifest, bytes: &[u8]) -> Result<bool, NoM
 fn is_sound(alloc: Global, manifest: &Manifest) -> Result<bool, NoMemory>
     ensures { IfOk result (λ b. b ≡ is_sound manifest.now) }
 {
-    let _uid = uid(manifest);
     let ids = ids_of(alloc, scopes(manifest))?;
-    obeys_itself(alloc, manifest, &ids)
+    obeys_itself(alloc, uid(manifest), scopes(manifest), &ids)
 }
 
 /// Reads, behind so many bytes, a count of ids and the ids, which may have been dropped where others are there, and tells

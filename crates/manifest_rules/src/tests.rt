@@ -2,8 +2,8 @@ ghost use Rattle.std.specs.Prelude.{IsTrue, IfOk};
 ghost use Rattle.manifest_rules.specs.State.{is_kept};
 
 use crate::{
-    Manifest, StateFault, apply, collection_of, dropped_collections, first, has, kept_stays_kept,
-    max_ttl, read_manifest, read_state, scope_of, state_into, text, uid,
+    Dropped, Manifest, StateFault, apply, apply_text, collection_of, dropped_collections, first,
+    has, kept_stays_kept, max_ttl, read_manifest, read_state, scope_of, state_into, text, uid,
 };
 use doc_model::{Refused, Status};
 use kv_edge::NoMemory;
@@ -32,22 +32,24 @@ const FRUIT_AGAIN: &str =
 fn over(alloc: Global, old: &mut Manifest, text: &str) -> Result<u16, NoMemory>
     ensures { IsTrue (is_kept old.old) → IsTrue (is_kept old.new) }
 {
-    let new = match read_manifest(alloc, text.as_bytes()) {
-        Ok(new) => new,
-        Err(Refused::Status(status)) => return Ok(status.code),
-        Err(Refused::NoMemory) => return Err(NoMemory),
-    };
-    match apply(alloc, old, new) {
+    status_or_0(apply_text(alloc, old, text.as_bytes()))
+}
+
+// The same over the first manifest, where the text is read before it is applied.
+fn alone(alloc: Global, text: &str) -> Result<u16, NoMemory> {
+    let mut manifest = first(alloc)?;
+    match read_manifest(alloc, text.as_bytes()) {
+        Ok(new) => status_or_0(apply(alloc, &mut manifest, new)),
+        Err(refused) => status_or_0(Err(refused)),
+    }
+}
+
+fn status_or_0(answer: Result<Dropped, Refused>) -> Result<u16, NoMemory> {
+    match answer {
         Ok(_dropped) => Ok(0),
         Err(Refused::Status(status)) => Ok(status.code),
         Err(Refused::NoMemory) => Err(NoMemory),
     }
-}
-
-// The same over the first manifest.
-fn alone(alloc: Global, text: &str) -> Result<u16, NoMemory> {
-    let mut manifest = first(alloc)?;
-    over(alloc, &mut manifest, text)
 }
 
 // The id or the status that a path comes to.

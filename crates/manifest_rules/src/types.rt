@@ -10,9 +10,6 @@ pub const COUNT_LIMIT: usize = 1200;
 /// How many ids of each kind may have been dropped at most.
 pub const DROPPED_LIMIT: usize = 65_536;
 
-/// How many bytes the text of a manifest has at most.
-pub const TEXT_LIMIT: usize = 1_048_576;
-
 /// A collection of documents.
 #[derive(Debug, PartialEq, Eq, Drop)]
 pub struct Collection {

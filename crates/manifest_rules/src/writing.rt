@@ -10,8 +10,15 @@ use std::alloc::{AllocError, Global};
 pub fn text(alloc: Global, manifest: &Manifest) -> Result<Bytes, NoMemory>
     ensures { IfOk result (λ bytes. bytes ≡ text_of manifest.now) }
 {
+    text_with(alloc, uid(manifest), scopes(manifest))
+}
+
+/// The text of a manifest of this uid and these scopes.
+pub(crate) fn text_with(alloc: Global, uid: u64, scopes: &[Scope]) -> Result<Bytes, NoMemory>
+    ensures { IfOk result (λ bytes. bytes ≡ manifest_text uid scopes.now) }
+{
     let mut out = Vec::new(alloc);
-    add_manifest(alloc, &mut out, uid(manifest), scopes(manifest))?;
+    add_manifest(alloc, &mut out, uid, scopes)?;
     Ok(Bytes::from_vec(out))
 }
 

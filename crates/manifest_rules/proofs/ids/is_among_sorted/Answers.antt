@@ -1,5 +1,5 @@
 use Rattle.std.proofs.Common.{◌∙◌}
-use Rattle.manifest_rules.proofs.Sorted.{found_sorted}
+use Rattle.doc_model.proofs.Searched.{found_sorted}
 use Rattle.manifest_rules.proofs.ids.is_among_sorted.Goals as goal
 
 pub returns : goal.returns

@@ -1,18 +1,18 @@
-use Rattle.std.proofs.Common.{not, ◌&&◌, ◌+◌, map, drop, sym, ap, ◌∙◌}
-use Rattle.manifest_rules.specs.Rules.{same_name, are_distinct}
-use Rattle.manifest_rules.proofs.Distinct.{decided}
+use Rattle.std.proofs.Common.{nat_cmp, cond, true, ap, ◌∙◌, sym}
+use Rattle.std.specs.BTreeSet.{contains}
+use Rattle.std.specs.Cmp.Lexicographic.{slice_cmp, nat_list_eq_equiv, texts_ties}
+use Rattle.manifest_rules.specs.Rules.{same_name}
+use Rattle.manifest_rules.proofs.Distinct.{next_twice, next_seen}
 use Rattle.manifest_rules.proofs.rules.scopes_differ.Goals as goal
 
-pub loop-at-preserved : goal.loop-at-preserved
-loop-at-preserved c =
-    decided same_name (λ x. x.name) c.args.scopes.now c.loop-at.at c.index-scopes-at.result c.as_slice.result.now c.split_at.result.1.now c.is_name_of_scope.result
-    c.loop-at.invariant c.loop-at-test.true c.as_slice.ensures c.split_at.ensures.back c.is_name_of_scope.ensures
-    ∙ ap (λ b. not b && are_distinct same_name (map (λ x. x.name) (drop (c.loop-at.at + 1) c.args.scopes.now))) c.if-is_name_of_scope.false
+pub returns-then-not-branch : goal.returns-then-not-branch
+returns-then-not-branch c =
+    next_twice same_name nat_list_eq_equiv.symm (λ x. x.name) c.args.scopes.now c.loop-scope.scope-index c.scope-item.result c.in_ok-copy.field-0 (contains (slice_cmp nat_cmp) c.loop-scope.seen) c.in_ok-insert.field-0
+    c.loop-scope.invariant c.loop-scope-test.true c.scope-item.is c.in_ok-copy.ensures c.in_ok-insert.ensures.added c.if-not-branch.true
 
-pub returns-then-is_name_of_scope : goal.returns-then-is_name_of_scope
-returns-then-is_name_of_scope c =
-    sym (
-    decided same_name (λ x. x.name) c.args.scopes.now c.loop-at.at c.index-scopes-at.result c.as_slice.result.now c.split_at.result.1.now c.is_name_of_scope.result
-    c.loop-at.invariant c.loop-at-test.true c.as_slice.ensures c.split_at.ensures.back c.is_name_of_scope.ensures
-    ∙ ap (λ b. not b && are_distinct same_name (map (λ x. x.name) (drop (c.loop-at.at + 1) c.args.scopes.now))) c.if-is_name_of_scope.true
-    )
+pub loop-scope-preserved : goal.loop-scope-preserved
+loop-scope-preserved c =
+    let key = c.in_ok-copy.field-0 in
+    next_seen same_name nat_list_eq_equiv.symm (λ x. x.name) c.args.scopes.now c.loop-scope.scope-index c.scope-item.result key (contains (slice_cmp nat_cmp) c.loop-scope.seen) (contains (slice_cmp nat_cmp) c.insert.new.self) c.in_ok-insert.field-0
+    c.loop-scope.invariant c.loop-scope-test.true c.scope-item.is c.in_ok-copy.ensures c.in_ok-insert.ensures.added c.if-not-branch.false
+    (λ q. c.in_ok-insert.ensures.updates.0 q ∙ ap (λ b. cond b true (contains (slice_cmp nat_cmp) c.loop-scope.seen q)) (sym (texts_ties key q)))

@@ -11,12 +11,12 @@ add_text-requires c = sound_short c.args.manifest.now (kept_sound c.args.manifes
 pub add_ids-requires : goal.add_ids-requires
 add_ids-requires c =
     let m = c.args.manifest.now in
-    subst (λ l. length l < 2 ^ 32) (sym c.dropped_scopes.ensures) (gone_short (scope_ids m.scopes) m.dropped_scopes (kept_parts m c.requires).gone_scopes)
+    subst (λ l. length l < 2 ^ 32) (sym c.dropped_scopes.ensures.value) (gone_short (scope_ids m.scopes) m.dropped_scopes (kept_parts m c.requires).gone_scopes)
 
 pub add_ids-requires-2 : goal.add_ids-requires-2
 add_ids-requires-2 c =
     let m = c.args.manifest.now in
-    subst (λ l. length l < 2 ^ 32) (sym c.dropped_collections.ensures) (gone_short (collection_ids m.scopes) m.dropped_collections (kept_parts m c.requires).gone_collections)
+    subst (λ l. length l < 2 ^ 32) (sym c.dropped_collections.ensures.value) (gone_short (collection_ids m.scopes) m.dropped_collections (kept_parts m c.requires).gone_collections)
 
 pub returns-clause-ok : goal.returns-clause-ok
 returns-clause-ok c =
@@ -24,6 +24,6 @@ returns-clause-ok c =
     let old = c.args.out.now.items in
     state_whole m old c.add_text.new.out.items c.add_ids.new.out.items c.add_ids-2.new.out.items c.extend_from_slice.new.self.items
     (c.in_ok-add_text.ensures ∙ ap (λ l. l ++ text_bytes m) c.new-state.ensures.items)
-    (c.in_ok-add_ids.ensures ∙ ap (λ l. c.add_text.new.out.items ++ ids_bytes l) c.dropped_scopes.ensures)
-    (c.in_ok-add_ids-2.ensures ∙ ap (λ l. c.add_ids.new.out.items ++ ids_bytes l) c.dropped_collections.ensures)
+    (c.in_ok-add_ids.ensures ∙ ap (λ l. c.add_text.new.out.items ++ ids_bytes l) c.dropped_scopes.ensures.value)
+    (c.in_ok-add_ids-2.ensures ∙ ap (λ l. c.add_ids.new.out.items ++ ids_bytes l) c.dropped_collections.ensures.value)
     (c.in_ok-extend_from_slice.ensures.items ∙ ap (λ t. old ++ t) c.as_slice.ensures.value)
