@@ -1,0 +1,14 @@
+pub mod Grammar
+pub mod Spelled
+pub mod Plain
+pub mod Decoding
+pub mod Fronts
+pub mod Paths
+pub mod Follow
+pub mod Moves
+pub mod PlainMoves
+pub mod Splices
+pub mod Edit
+pub mod Values
+pub mod Order
+pub mod Worked
