@@ -1,0 +1,14 @@
+pub mod Fronts
+pub mod Steps
+pub mod Runs
+pub mod Values
+pub mod Again
+pub mod Placed
+pub mod Loops
+pub mod Groups
+pub mod Simulation
+pub mod Alive
+pub mod Exact
+pub mod Documents
+pub mod Turned
+pub mod Judged
