@@ -1,0 +1,9 @@
+pub mod Names
+pub mod Indices
+pub mod Spelling
+pub mod Matches
+pub mod Steps
+pub mod Walking
+pub mod Counting
+pub mod Following
+pub mod Trailing
