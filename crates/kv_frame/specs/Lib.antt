@@ -1,3 +1,4 @@
 pub mod Grammar
 pub mod Judging
 pub mod Reading
+pub mod Viewing

@@ -12,11 +12,9 @@ use Rattle.kv_frame.specs.declared.header.Fields.{Fields}
 use Rattle.kv_frame.specs.declared.header.Header.{Header}
 use Rattle.kv_frame.specs.declared.header.HeaderRead.{HeaderRead}
 use Rattle.kv_frame.specs.declared.header.HeaderRead.TheVariants as headers
-use Rattle.kv_frame.specs.declared.decoding.BodyRead.{BodyRead}
-use Rattle.kv_frame.specs.declared.decoding.BodyRead.TheVariants as bodies
 use Rattle.kv_frame.specs.declared.framing.Framing.{Framing}
 use Rattle.kv_frame.specs.declared.framing.Framing.TheVariants as framings
-use Rattle.kv_frame.specs.Grammar.{section, ExtraFits, IsOfSide, key_bound, header_of, header_front, header_back, body}
+use Rattle.kv_frame.specs.Grammar.{section, ExtraFits, IsOfSide, key_bound, header_front, header_back}
 use Rattle.kv_frame.specs.Judging.{GoesWrongAt, IsBad}
 
 -- offsets 0 to 3: magic, opcode, and the two bytes of lengths as one number
@@ -136,8 +134,3 @@ ReadsSection bytes (framings.Wrong place) = GoesWrongAt bytes place
 abbrev pub JudgesSection : List ℕ → Option ℕ → Type 0
 JudgesSection bytes None = (es : List FrameExtra) × AllByRecursion ExtraFits es × (bytes ≡ section es)
 JudgesSection bytes (Some place) = GoesWrongAt bytes place
-
--- What is read of the bytes behind a header: the frame whose header and body they are, or where the framing section goes wrong.
-abbrev pub ReadsBody : Header → List ℕ → BodyRead → Type 0
-ReadsBody h bytes (bodies.Whole f) = AllByRecursion ExtraFits f.framing × (header_of f ≡ h) × (bytes ≡ body f)
-ReadsBody h bytes (bodies.Wrong place) = GoesWrongAt (take h.framing bytes) place

@@ -1,9 +1,11 @@
-ghost use Rattle.std.specs.Prelude.{◌≡◌, ◌++◌, ◌<◌, ◌^◌, ◌≤◌, ◌+◌, OnOk, OnErr, length, take};
+ghost use Rattle.std.specs.Prelude.{◌≡◌, [], ◌∷◌, ◌++◌, ◌<◌, ◌^◌, ◌≤◌, ◌+◌, OnOk, OnErr, length, take};
 ghost use Rattle.std.specs.List.{AllByRecursion};
 ghost use Rattle.kv_frame.specs.Grammar.{magic_byte, nibble, further, front_lengths, header_of, header_front, header_back, extra, section, ExtraFits, body, spelling, Fits};
 ghost use Rattle.kv_frame.specs.Reading.{HeaderFits};
 
-use crate::frame::{Frame, FrameExtra, Magic};
+use crate::frame::{
+    FLEX_REPLY, FLEX_REQUEST, Frame, FrameExtra, HEADER_LENGTH, Magic, REPLY, REQUEST,
+};
 use crate::header::Header;
 use kv_edge::NoMemory;
 
@@ -12,58 +14,64 @@ fn magic_byte(magic: Magic) -> u8
     ensures { result ≡ magic_byte magic }
 {
     match magic {
-        Magic::Request => 0x80,
-        Magic::FlexRequest => 0x08,
-        Magic::Reply => 0x81,
-        Magic::FlexReply => 0x18,
+        Magic::Request => REQUEST,
+        Magic::FlexRequest => FLEX_REQUEST,
+        Magic::Reply => REPLY,
+        Magic::FlexReply => FLEX_REPLY,
     }
 }
 
-/// Appends the lengths at offsets 2 and 3. At `Err` what was there stands at the front.
-fn put_lengths(header: &Header, out: &mut Vec<u8>) -> Result<(), NoMemory>
+/// The bytes at offsets 2 and 3: the lengths of framing section and key.
+fn front_lengths(header: &Header) -> (u8, u8)
     requires { HeaderFits header.now }
-    ensures ok { OnOk result (out.new.items ≡ out.old.items ++ front_lengths header.now.magic header.now.framing header.now.key) }
-    ensures err { OnErr result (take (length out.old.items) out.new.items ≡ out.old.items) }
+    ensures { result.0 ∷ result.1 ∷ [] ≡ front_lengths header.now.magic header.now.framing header.now.key }
 {
     match header.magic {
         Magic::Request | Magic::Reply => {
-            out.extend_from_slice(&(header.key as u16).to_be_bytes())?;
+            let key = (header.key as u16).to_be_bytes();
+            (key[0], key[1])
         }
-        Magic::FlexRequest | Magic::FlexReply => {
-            out.push(header.framing as u8)?;
-            out.push(header.key as u8)?;
-        }
+        Magic::FlexRequest | Magic::FlexReply => (header.framing as u8, header.key as u8),
     }
-    Ok(())
 }
 
-/// Appends offsets 0 to 7. At `Err` what was there stands at the front.
-#[tactic(auto, unfolding(crate::specs::Grammar::header_front), using(std::proofs::lemmas::List::append_assoc))]
-fn put_front(header: &Header, out: &mut Vec<u8>) -> Result<(), NoMemory>
+/// The bytes of a header.
+#[tactic(auto, unfolding(crate::specs::Grammar::header_front, crate::specs::Grammar::header_back))]
+pub fn header_bytes(header: &Header) -> [u8; HEADER_LENGTH]
     requires { HeaderFits header.now }
-    ensures ok { OnOk result (out.new.items ≡ out.old.items ++ header_front header.now) }
-    ensures err { OnErr result (take (length out.old.items) out.new.items ≡ out.old.items) }
+    ensures { result ≡ header_front header.now ++ header_back header.now }
 {
-    out.push(magic_byte(header.magic))?;
-    out.push(header.opcode)?;
-    put_lengths(header, out)?;
-    out.push(header.extras as u8)?;
-    out.push(header.datatype)?;
-    out.extend_from_slice(&header.word.to_be_bytes())?;
-    Ok(())
-}
-
-/// Appends offsets 8 to 23. At `Err` what was there stands at the front.
-#[tactic(auto, unfolding(crate::specs::Grammar::header_back), using(std::proofs::lemmas::List::append_assoc))]
-fn put_back(header: &Header, out: &mut Vec<u8>) -> Result<(), NoMemory>
-    requires { HeaderFits header.now }
-    ensures ok { OnOk result (out.new.items ≡ out.old.items ++ header_back header.now) }
-    ensures err { OnErr result (take (length out.old.items) out.new.items ≡ out.old.items) }
-{
-    out.extend_from_slice(&(header.body as u32).to_be_bytes())?;
-    out.extend_from_slice(&header.opaque.to_be_bytes())?;
-    out.extend_from_slice(&header.cas.to_be_bytes())?;
-    Ok(())
+    let (second, third) = front_lengths(header);
+    let word = header.word.to_be_bytes();
+    let body = (header.body as u32).to_be_bytes();
+    let opaque = header.opaque.to_be_bytes();
+    let cas = header.cas.to_be_bytes();
+    [
+        magic_byte(header.magic),
+        header.opcode,
+        second,
+        third,
+        header.extras as u8,
+        header.datatype,
+        word[0],
+        word[1],
+        body[0],
+        body[1],
+        body[2],
+        body[3],
+        opaque[0],
+        opaque[1],
+        opaque[2],
+        opaque[3],
+        cas[0],
+        cas[1],
+        cas[2],
+        cas[3],
+        cas[4],
+        cas[5],
+        cas[6],
+        cas[7],
+    ]
 }
 
 /// What the nibble of a number shows.
@@ -187,8 +195,8 @@ fn put_frame(frame: &Frame, out: &mut Vec<u8>) -> Result<(), NoMemory>
     ensures err { OnErr result (take (length out.old.items) out.new.items ≡ out.old.items) }
 {
     let header = header_of(frame);
-    put_front(&header, out)?;
-    put_back(&header, out)?;
+    out.reserve(HEADER_LENGTH + header.body)?;
+    out.extend_from_slice(&header_bytes(&header))?;
     put_body(frame, out)
 }
 

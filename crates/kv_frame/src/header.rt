@@ -3,7 +3,9 @@ ghost use Rattle.kv_frame.specs.declared.frame.Magic.{Magic};
 ghost use Rattle.kv_frame.specs.Grammar.{magic_byte, IsOfSide};
 ghost use Rattle.kv_frame.specs.Reading.{front_at, middle_at, back_at, fields_at, header_from, ReadsHeader};
 
-use crate::frame::{BODY_LIMIT, HEADER_LENGTH, Magic, Side};
+use crate::frame::{
+    BODY_LIMIT, FLEX_REPLY, FLEX_REQUEST, HEADER_LENGTH, Magic, REPLY, REQUEST, Side,
+};
 use crate::judging::Fault;
 use kv_edge::{u8_at, u16_at, u32_at, u64_at};
 
@@ -110,10 +112,10 @@ fn magic_of(side: Side, byte: u8) -> Option<Magic>
     ensures { MatchOption result ((magic : Magic) → IsOfSide side magic → byte ≢ magic_byte magic) (λ magic. IsOfSide side magic × (byte ≡ magic_byte magic)) }
 {
     match (side, byte) {
-        (Side::Requests, 0x80) => Some(Magic::Request),
-        (Side::Requests, 0x08) => Some(Magic::FlexRequest),
-        (Side::Replies, 0x81) => Some(Magic::Reply),
-        (Side::Replies, 0x18) => Some(Magic::FlexReply),
+        (Side::Requests, REQUEST) => Some(Magic::Request),
+        (Side::Requests, FLEX_REQUEST) => Some(Magic::FlexRequest),
+        (Side::Replies, REPLY) => Some(Magic::Reply),
+        (Side::Replies, FLEX_REPLY) => Some(Magic::FlexReply),
         _ => None,
     }
 }

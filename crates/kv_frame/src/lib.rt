@@ -39,13 +39,16 @@ mod framing;
 mod header;
 mod judging;
 mod laws;
+mod viewing;
 
 pub use decoding::{Step, decode};
-pub use encoding::encode_into;
+pub use encoding::{encode_into, header_bytes};
 pub use fitting::fits;
-pub use frame::{BODY_LIMIT, Frame, FrameExtra, HEADER_LENGTH, Magic, Side};
+pub use frame::{BODY_LIMIT, Frame, FrameExtra, FrameView, HEADER_LENGTH, Magic, Side, view_of};
+pub use header::Header;
 pub use judging::{Fault, Judged, judge};
 pub use laws::{frame_numbers, one_frame, one_judgement};
+pub use viewing::{ViewStep, view};
 
 #[cfg(test)]
 mod tests;

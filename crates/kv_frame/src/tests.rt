@@ -1,4 +1,5 @@
 use crate::{Fault, Frame, Judged, Magic, Side, Step, decode, encode_into, fits, judge};
+use hex_rows::bytes_of;
 use std::alloc::Global;
 use std::test::Fail;
 
@@ -8,27 +9,6 @@ const GET: &str = "80 00 0001 00 00 0000 00000001 deadbeef 0000000000000000 61";
 /// A Set of the key `a` at level 1, which its one framing extra asks for.
 const SET_AT_A_LEVEL: &str =
     "08 01 02 01 08 00 0000 0000000c 00000005 0000000000000000 1101 0000000000000000 61 31";
-
-/// The bytes of hexadecimal digits. Blanks between them are for reading.
-fn hex(alloc: Global, text: &str) -> Result<Vec<u8>, Fail> {
-    let mut bytes = Vec::new(alloc);
-    let mut high = None;
-    for digit in text.bytes() {
-        let digit = match digit {
-            b'0'..=b'9' => digit - b'0',
-            b'a'..=b'f' => digit - b'a' + 10,
-            _ => continue,
-        };
-        match high {
-            None => high = Some(digit << 4),
-            Some(above) => {
-                bytes.push(above | digit)?;
-                high = None;
-            }
-        }
-    }
-    Ok(bytes)
-}
 
 /// The frame that all of the bytes are.
 fn frame_of(alloc: Global, side: Side, bytes: &[u8]) -> Result<Frame, Fail> {
@@ -52,7 +32,7 @@ fn spelled(alloc: Global, frame: &Frame) -> Result<Vec<u8>, Fail> {
 
 #[test]
 fn a_get_is_read_and_spelled_again(rt: HostRuntime) -> Result<(), Fail> {
-    let bytes = hex(rt.alloc(), GET)?;
+    let bytes = bytes_of(rt.alloc(), GET)?;
     let frame = frame_of(rt.alloc(), Side::Requests, &bytes)?;
     assert_eq!(rt; frame.magic, Magic::Request);
     assert_eq!(rt; frame.opcode, 0);
@@ -72,7 +52,7 @@ fn a_get_is_read_and_spelled_again(rt: HostRuntime) -> Result<(), Fail> {
 fn a_reply_with_a_token_is_read_and_spelled_again(rt: HostRuntime) -> Result<(), Fail> {
     let text =
         "81 01 0000 10 00 0007 00000010 00000001 0102030405060708 0000000000000004 0000000000000009";
-    let bytes = hex(rt.alloc(), text)?;
+    let bytes = bytes_of(rt.alloc(), text)?;
     let frame = frame_of(rt.alloc(), Side::Replies, &bytes)?;
     assert_eq!(rt; frame.magic, Magic::Reply);
     assert_eq!(rt; frame.opcode, 1);
@@ -89,7 +69,7 @@ fn a_reply_with_a_token_is_read_and_spelled_again(rt: HostRuntime) -> Result<(),
 
 #[test]
 fn a_framing_extra_is_read_and_spelled_again(rt: HostRuntime) -> Result<(), Fail> {
-    let bytes = hex(rt.alloc(), SET_AT_A_LEVEL)?;
+    let bytes = bytes_of(rt.alloc(), SET_AT_A_LEVEL)?;
     let frame = frame_of(rt.alloc(), Side::Requests, &bytes)?;
     assert_eq!(rt; frame.magic, Magic::FlexRequest);
     assert_eq!(rt; frame.framing.len(), 1);
@@ -109,7 +89,7 @@ fn an_id_and_a_length_from_15_on_have_a_further_byte(rt: HostRuntime) -> Result<
     // Id 15 + 1, and 15 + 2 bytes.
     let text =
         "18 00 14 00 00 00 0000 00000014 00000000 0000000000000000 ff 01 02 0102030405060708090a0b0c0d0e0f1011";
-    let bytes = hex(rt.alloc(), text)?;
+    let bytes = bytes_of(rt.alloc(), text)?;
     let frame = frame_of(rt.alloc(), Side::Replies, &bytes)?;
     assert_eq!(rt; frame.magic, Magic::FlexReply);
     assert_eq!(rt; frame.framing.len(), 1);
@@ -158,7 +138,7 @@ fn what_is_judged_and_what_is_decoded_agree(rt: HostRuntime) -> Result<(), Fail>
         ),
     ];
     for (text, want) in rows {
-        let bytes = hex(rt.alloc(), text)?;
+        let bytes = bytes_of(rt.alloc(), text)?;
         assert_eq!(rt; judge(Side::Requests, &bytes), want, "{text}");
         let step = decode(rt.alloc(), Side::Requests, &bytes)
             .ok()

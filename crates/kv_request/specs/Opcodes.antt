@@ -1,71 +1,66 @@
 -- The table of opcodes, and the form of each command's request.
-use Rattle.std.specs.Prelude.{ℕ, nat_eq, nat_le, Bool, true, false, ◌&&◌, find, is_some, List, [], ◌∷◌, Option}
+use Rattle.std.specs.Prelude.{ℕ, nat_eq, nat_le, Bool, true, false, ◌&&◌, find, is_some, List, [], ◌∷◌, ◌++◌, Option}
 use Rattle.std.specs.Option.{option_map, option_map_or}
 use Rattle.doc_model.specs.declared.status.Status.{Status}
 use Rattle.doc_model.specs.declared.status.TheConstants.Status as status
-use Rattle.kv_request.specs.declared.opcode.TheConstants.{GET, GETQ, GETK, GETKQ, SET, SETQ, ADD, ADDQ, REPLACE, REPLACEQ, DELETE, DELETEQ, INCREMENT, INCREMENTQ, DECREMENT, DECREMENTQ, QUIT, QUITQ, NOOP, VERSION, APPEND, APPENDQ, PREPEND, PREPENDQ, TOUCH, GAT, HELLO, SET_MANIFEST, GET_MANIFEST, COLLECTION_ID, SCOPE_ID, FIRST_STREAM, LAST_STREAM}
 use Rattle.kv_request.specs.declared.opcode.Command.{Command}
 use Rattle.kv_request.specs.declared.opcode.Command.TheVariants as commands
 
 -- each opcode that is served, but for the quiet ones, with what it asks for
 abbrev pub opcodes : List (ℕ × Command)
 opcodes =
-    (GET, commands.Get)
-    ∷ (GETK, commands.GetKey)
-    ∷ (SET, commands.Set)
-    ∷ (ADD, commands.Add)
-    ∷ (REPLACE, commands.Replace)
-    ∷ (DELETE, commands.Delete)
-    ∷ (INCREMENT, commands.Increment)
-    ∷ (DECREMENT, commands.Decrement)
-    ∷ (APPEND, commands.Append)
-    ∷ (PREPEND, commands.Prepend)
-    ∷ (TOUCH, commands.Touch)
-    ∷ (GAT, commands.GetAndTouch)
-    ∷ (QUIT, commands.Quit)
-    ∷ (NOOP, commands.Noop)
-    ∷ (VERSION, commands.Version)
-    ∷ (HELLO, commands.Hello)
-    ∷ (SET_MANIFEST, commands.SetManifest)
-    ∷ (GET_MANIFEST, commands.GetManifest)
-    ∷ (COLLECTION_ID, commands.CollectionId)
-    ∷ (SCOPE_ID, commands.ScopeId)
+    (0x00, commands.Get)
+    ∷ (0x0c, commands.GetKey)
+    ∷ (0x01, commands.Set)
+    ∷ (0x02, commands.Add)
+    ∷ (0x03, commands.Replace)
+    ∷ (0x04, commands.Delete)
+    ∷ (0x05, commands.Increment)
+    ∷ (0x06, commands.Decrement)
+    ∷ (0x0e, commands.Append)
+    ∷ (0x0f, commands.Prepend)
+    ∷ (0x1c, commands.Touch)
+    ∷ (0x1d, commands.GetAndTouch)
+    ∷ (0x07, commands.Quit)
+    ∷ (0x0a, commands.Noop)
+    ∷ (0x0b, commands.Version)
+    ∷ (0x1f, commands.Hello)
+    ∷ (0xb9, commands.SetManifest)
+    ∷ (0xba, commands.GetManifest)
+    ∷ (0xbb, commands.CollectionId)
+    ∷ (0xbc, commands.ScopeId)
     ∷ []
 
--- each quiet opcode with the loud one that asks for the same
-abbrev pub quiet_opcodes : List (ℕ × ℕ)
+-- each quiet opcode, with what it asks for
+abbrev pub quiet_opcodes : List (ℕ × Command)
 quiet_opcodes =
-    (GETQ, GET)
-    ∷ (GETKQ, GETK)
-    ∷ (SETQ, SET)
-    ∷ (ADDQ, ADD)
-    ∷ (REPLACEQ, REPLACE)
-    ∷ (DELETEQ, DELETE)
-    ∷ (INCREMENTQ, INCREMENT)
-    ∷ (DECREMENTQ, DECREMENT)
-    ∷ (APPENDQ, APPEND)
-    ∷ (PREPENDQ, PREPEND)
-    ∷ (QUITQ, QUIT)
+    (0x09, commands.Get)
+    ∷ (0x0d, commands.GetKey)
+    ∷ (0x11, commands.Set)
+    ∷ (0x12, commands.Add)
+    ∷ (0x13, commands.Replace)
+    ∷ (0x14, commands.Delete)
+    ∷ (0x15, commands.Increment)
+    ∷ (0x16, commands.Decrement)
+    ∷ (0x19, commands.Append)
+    ∷ (0x1a, commands.Prepend)
+    ∷ (0x17, commands.Quit)
     ∷ []
 
--- the loud opcode that asks for the same, where an opcode is quiet
-abbrev pub loud_of : ℕ → Option ℕ
-loud_of opcode = option_map (λ row. row.1) (find (λ row. nat_eq opcode row.0) quiet_opcodes)
+-- what an opcode asks for by these rows
+abbrev pub command_in : List (ℕ × Command) → ℕ → Option Command
+command_in rows opcode = option_map (λ row. row.1) (find (λ row. nat_eq opcode row.0) rows)
 
 abbrev pub is_quiet : ℕ → Bool
-is_quiet opcode = is_some (loud_of opcode)
-
--- what a loud opcode asks for
-abbrev pub loud_command : ℕ → Option Command
-loud_command opcode = option_map (λ row. row.1) (find (λ row. nat_eq opcode row.0) opcodes)
+is_quiet opcode = is_some (command_in quiet_opcodes opcode)
 
 -- what an opcode asks for, loud or quiet
 abbrev pub command_of : ℕ → Option Command
-command_of opcode = loud_command (option_map_or (λ loud. loud) (loud_of opcode) opcode)
+command_of opcode = command_in (opcodes ++ quiet_opcodes) opcode
 
 -- the opcodes of streams between nodes, none of which is served
 abbrev pub is_of_streams : ℕ → Bool
-is_of_streams opcode = nat_le FIRST_STREAM opcode && nat_le opcode LAST_STREAM
+is_of_streams opcode = nat_le 0x50 opcode && nat_le opcode 0x6f
 
 -- the status that a quiet opcode of this command leaves unsent: a miss of a Get, else success
 abbrev pub unsent_status : Command → Status

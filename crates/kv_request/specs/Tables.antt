@@ -161,47 +161,51 @@ pairs_of (last ∷ []) = []
 pairs_of (high ∷ low ∷ others) = (256 * high + low) ∷ pairs_of others
 
 -- a document to store: extras are flags and expiry
-abbrev pub stored : Features → Frame → Mode → Body
-stored features frame mode = bodies.Store (key_of features frame) mode (word_at 0 frame.extras) (word_at 4 frame.extras) frame.value
+abbrev pub stored : DocKey → Frame → Mode → Body
+stored key frame mode = bodies.Store key mode (word_at 0 frame.extras) (word_at 4 frame.extras) frame.value
 
 -- a number to count: extras are delta, initial value and expiry
-abbrev pub counted : Features → Frame → Bool → Body
-counted features frame up = bodies.Count (key_of features frame) up (long_at 0 frame.extras) (long_at 8 frame.extras) (word_at 16 frame.extras)
+abbrev pub counted : DocKey → Frame → Bool → Body
+counted key frame up = bodies.Count key up (long_at 0 frame.extras) (long_at 8 frame.extras) (word_at 16 frame.extras)
 
 -- bytes to add to a value
-abbrev pub joined : Features → Frame → Bool → Body
-joined features frame front = bodies.Join (key_of features frame) front frame.value
+abbrev pub joined : DocKey → Frame → Bool → Body
+joined key frame front = bodies.Join key front frame.value
 
 -- a document to give an expiry: extras are the expiry
-abbrev pub touched : Features → Frame → Bool → Body
-touched features frame fetch = bodies.Touch (key_of features frame) (word_at 0 frame.extras) fetch
+abbrev pub touched : DocKey → Frame → Bool → Body
+touched key frame fetch = bodies.Touch key (word_at 0 frame.extras) fetch
 
 -- the path of a collection or a scope, which is the key or the value
 abbrev pub path_of : Frame → List ℕ
 path_of frame = if nat_eq (length frame.key) 0 then frame.value else frame.key
 
+-- what the request of a frame asks for, where this is the document's key that it names
+abbrev pub body_with : DocKey → Frame → Command → Body
+body_with key frame commands.Get = bodies.Get key
+body_with key frame commands.GetKey = bodies.Get key
+body_with key frame commands.Set = stored key frame modes.Set
+body_with key frame commands.Add = stored key frame modes.Add
+body_with key frame commands.Replace = stored key frame modes.Replace
+body_with key frame commands.Delete = bodies.Delete key
+body_with key frame commands.Increment = counted key frame true
+body_with key frame commands.Decrement = counted key frame false
+body_with key frame commands.Append = joined key frame false
+body_with key frame commands.Prepend = joined key frame true
+body_with key frame commands.Touch = touched key frame false
+body_with key frame commands.GetAndTouch = touched key frame true
+body_with key frame commands.Quit = bodies.Quit
+body_with key frame commands.Noop = bodies.Noop
+body_with key frame commands.Version = bodies.Version
+body_with key frame commands.Hello = bodies.Hello (pairs_of frame.value)
+body_with key frame commands.SetManifest = bodies.SetManifest frame.value
+body_with key frame commands.GetManifest = bodies.GetManifest
+body_with key frame commands.CollectionId = bodies.CollectionId (path_of frame)
+body_with key frame commands.ScopeId = bodies.ScopeId (path_of frame)
+
 -- what the request of a frame asks for
 abbrev pub body_of : Features → Frame → Command → Body
-body_of features frame commands.Get = bodies.Get (key_of features frame)
-body_of features frame commands.GetKey = bodies.Get (key_of features frame)
-body_of features frame commands.Set = stored features frame modes.Set
-body_of features frame commands.Add = stored features frame modes.Add
-body_of features frame commands.Replace = stored features frame modes.Replace
-body_of features frame commands.Delete = bodies.Delete (key_of features frame)
-body_of features frame commands.Increment = counted features frame true
-body_of features frame commands.Decrement = counted features frame false
-body_of features frame commands.Append = joined features frame false
-body_of features frame commands.Prepend = joined features frame true
-body_of features frame commands.Touch = touched features frame false
-body_of features frame commands.GetAndTouch = touched features frame true
-body_of features frame commands.Quit = bodies.Quit
-body_of features frame commands.Noop = bodies.Noop
-body_of features frame commands.Version = bodies.Version
-body_of features frame commands.Hello = bodies.Hello (pairs_of frame.value)
-body_of features frame commands.SetManifest = bodies.SetManifest frame.value
-body_of features frame commands.GetManifest = bodies.GetManifest
-body_of features frame commands.CollectionId = bodies.CollectionId (path_of frame)
-body_of features frame commands.ScopeId = bodies.ScopeId (path_of frame)
+body_of features frame command = body_with (key_of features frame) frame command
 
 -- the request of a frame that passes every check
 abbrev pub request_of : Features → Frame → Command → Request

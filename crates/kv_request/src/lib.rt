@@ -3,16 +3,16 @@
 //!
 //! A request's frame is checked in this order, and the first check that fails is the answer's status:
 //!
-//! 1. The opcode is none of the streams between nodes, 50 to 6f, else NotSupported, and it is known, else UnknownCommand.
-//! 2. The datatype is 00 or 01, else Einval.
+//! 1. The opcode is none of the streams between nodes, 50 to 6f, else NOT_SUPPORTED, and it is known, else UNKNOWN_COMMAND.
+//! 2. The datatype is 00 or 01, else EINVAL.
 //! 3. Of the framing extras those of id 1 ask for a level of durability: there is at most one, it has one byte or three,
-//!    and the opcode takes it, else Einval. Its timeout, the last two bytes, isn't 0, else Einval. Its level, the first
-//!    byte, is 1 to 3, else DurabilityInvalidLevel. Other framing extras are skipped.
+//!    and the opcode takes it, else EINVAL. Its timeout, the last two bytes, isn't 0, else EINVAL. Its level, the first
+//!    byte, is 1 to 3, else DURABILITY_INVALID_LEVEL. Other framing extras are skipped.
 //! 4. Extras, key and value are there as the opcode asks, the value of a Hello has an even length, and of a path's key
-//!    and value just one is there, else Einval.
-//! 5. The key of a document spells one, else Einval ("Keys").
-//! 6. The value has at most 20,971,520 bytes, and the text of a manifest at most 1,048,576, else E2big.
-//! 7. An Add has the CAS 0, else Einval.
+//!    and value just one is there, else EINVAL.
+//! 5. The key of a document spells one, else EINVAL ("Keys").
+//! 6. The value has at most 20,971,520 bytes, and the text of a manifest at most 1,048,576, else E2BIG.
+//! 7. An Add has the CAS 0, else EINVAL.
 //!
 //! | Opcode (quiet) | Name | Extras | Key | Value | Level | Reply |
 //! |---|---|---|---|---|---|---|
@@ -53,11 +53,11 @@ pub use laws::{keys_as_spelled, request_numbers, requests_are_small, small_repli
 pub use opcode::Command;
 pub use reading::{
     DURABILITY, KEY_LIMIT, MANIFEST_LIMIT, OTHER_KEY_LIMIT, USUAL_TIMEOUT, VALUE_LIMIT,
-    read_request,
+    read_request, read_view,
 };
 pub use reply::{Reply, refusal};
 pub use request::{Body, Durability, Features, Mode, Request};
-pub use writing::write_reply;
+pub use writing::{reply_into, write_reply};
 
 #[cfg(test)]
 mod tests;

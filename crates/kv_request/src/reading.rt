@@ -1,27 +1,33 @@
-ghost use Rattle.std.specs.Prelude.{◌≡◌, ◌+◌, ◌≤◌, true, None, length, option_map, IfOk};
+ghost use Rattle.std.specs.Prelude.{◌≡◌, ◌+◌, ◌≤◌, true, length, option_map, IfOk};
 ghost use Rattle.std.specs.Option.{option_copied};
+ghost use Rattle.kv_frame.specs.Viewing.{frame_seen};
 ghost use Rattle.kv_request.specs.Reading.{Reads};
-ghost use Rattle.kv_request.specs.Tables.{has_form, is_cas_taken, word_at, long_at, level_extra, level_count, is_level_form, has_timeout, has_level, timeout_of, durability_of, is_even, has_one_path, name_limit, key_from, is_key, value_limit, path_of, checks, first_failing, key_of, stored, counted, joined, touched, pairs_of, body_of};
+ghost use Rattle.kv_request.specs.Tables.{has_form, is_cas_taken, word_at, long_at, level_extra};
+ghost use Rattle.kv_request.specs.Tables.{level_count, is_level_form, has_timeout, has_level};
+ghost use Rattle.kv_request.specs.Tables.{timeout_of, durability_of, is_even, has_one_path};
+ghost use Rattle.kv_request.specs.Tables.{name_limit, key_from, value_limit, path_of, stored, counted};
+ghost use Rattle.kv_request.specs.Tables.{joined, touched, pairs_of, body_with};
+ghost use Rattle.kv_request.specs.Viewing.{key_seen, FindsKey, Checks};
 
 use crate::opcode::{Command, FIRST_STREAM, LAST_STREAM};
 use crate::request::{Body, Durability, Features, Mode, Request};
 use doc_model::{DocKey, Refused, Status};
-use kv_edge::{Bytes, Copied, NoMemory, Seq};
-use kv_frame::{Frame, FrameExtra};
+use kv_edge::{Bytes, NoMemory, Seq, u32_at, u64_at};
+use kv_frame::{Frame, FrameExtra, FrameView, view_of};
 use leb_collections::read_id;
 use std::alloc::Global;
 
 /// How many bytes the name of a document has at most in the collection that is there from the start.
-pub const KEY_LIMIT: usize = 250;
+pub const KEY_LIMIT: usize = doc_model::KEY_LIMIT;
 
 /// How many bytes the name of a document has at most in any other collection.
-pub const OTHER_KEY_LIMIT: usize = 246;
+pub const OTHER_KEY_LIMIT: usize = doc_model::OTHER_KEY_LIMIT;
 
 /// How many bytes a value has at most.
-pub const VALUE_LIMIT: usize = 20_971_520;
+pub const VALUE_LIMIT: usize = doc_model::VALUE_LIMIT;
 
 /// How many bytes the text of a manifest has at most.
-pub const MANIFEST_LIMIT: usize = 1_048_576;
+pub const MANIFEST_LIMIT: usize = doc_model::MANIFEST_LIMIT;
 
 /// The id of the framing extra that asks for a level of durability.
 pub const DURABILITY: u16 = 1;
@@ -32,81 +38,103 @@ pub const USUAL_TIMEOUT: u16 = 30_000;
 /// The datatype of JSON text, which is the greatest that a request may have. The one below it says nothing.
 pub(crate) const JSON: u8 = 1;
 
+/// The key of a document in the bytes of a frame: its collection's id and its name.
+#[derive(Clone, Copy)]
+struct KeyView<'a> {
+    collection: u32,
+    name: &'a [u8],
+}
+
 /// The request that a frame is, or the status of the first check that it fails.
 pub fn read_request(alloc: Global, frame: &Frame, features: &Features) -> Result<Request, Refused>
     ensures { Reads frame.now features.now result }
 {
-    if FIRST_STREAM <= frame.opcode && frame.opcode <= LAST_STREAM {
+    let view = view_of(alloc, frame)?;
+    read_view(alloc, &view, features)
+}
+
+/// The request that a frame is of which this is a view, or the status of the first check that it fails. Key and value
+/// are copied once.
+pub fn read_view(
+    alloc: Global,
+    view: &FrameView<'_>,
+    features: &Features,
+) -> Result<Request, Refused>
+    ensures { Reads (frame_seen view.now) features.now result }
+{
+    if FIRST_STREAM <= view.opcode && view.opcode <= LAST_STREAM {
         return Err(Refused::Status(Status::NOT_SUPPORTED));
     }
-    let Some(command) = Command::of(frame.opcode) else {
+    let Some(command) = Command::of(view.opcode) else {
         return Err(Refused::Status(Status::UNKNOWN_COMMAND));
     };
-    if let Some(status) = check(frame, features, command) {
-        return Err(Refused::Status(status));
-    }
-    let body = body(alloc, frame, features, command)?;
+    let key = match check(view, features, command) {
+        Ok(key) => key,
+        Err(status) => return Err(Refused::Status(status)),
+    };
+    let key = copy_key(alloc, key)?;
+    let body = body(alloc, view, key, command)?;
     Ok(Request {
-        opcode: frame.opcode,
-        opaque: frame.opaque,
-        cas: frame.cas,
-        vbucket: frame.word,
-        durability: durability(find_level(frame)),
+        opcode: view.opcode,
+        opaque: view.opaque,
+        cas: view.cas,
+        vbucket: view.word,
+        durability: durability(find_level(view)),
         body,
     })
 }
 
-/// The status of the first check that a frame with a known opcode fails.
-fn check(frame: &Frame, features: &Features, command: Command) -> Option<Status>
-    ensures first { result ≡ first_failing (checks features.now frame.now command) }
-    ensures formed { result ≡ None → has_form frame.now command ≡ true }
-    ensures level { result ≡ None → is_level_form command (level_extra frame.now) ≡ true }
+/// The key of a frame with a known opcode, or the status of the first check that the frame fails.
+fn check<'a>(
+    view: &FrameView<'a>,
+    features: &Features,
+    command: Command,
+) -> Result<KeyView<'a>, Status>
+    ensures { Checks features.now (frame_seen view.now) command result }
 {
-    if frame.datatype > JSON {
-        return Some(Status::EINVAL);
+    if view.datatype > JSON {
+        return Err(Status::EINVAL);
     }
-    let level = find_level(frame);
-    if count_levels(frame) > 1 || !is_level_form(command, level) || !has_timeout(level) {
-        return Some(Status::EINVAL);
+    let level = find_level(view);
+    if count_levels(view) > 1 || !is_level_form(command, level) || !has_timeout(level) {
+        return Err(Status::EINVAL);
     }
     if !has_level(level) {
-        return Some(Status::DURABILITY_INVALID_LEVEL);
+        return Err(Status::DURABILITY_INVALID_LEVEL);
     }
-    if !has_form(frame, command) || !is_even(command, frame.value.len()) {
-        return Some(Status::EINVAL);
+    if !has_form(view, command) || !is_even(command, view.value.len()) {
+        return Err(Status::EINVAL);
     }
-    if !has_one_path(command, frame.key.len(), frame.value.len()) {
-        return Some(Status::EINVAL);
+    if !has_one_path(command, view.key.len(), view.value.len()) {
+        return Err(Status::EINVAL);
     }
-    if !is_key(features, command, frame.key.as_slice()) {
-        return Some(Status::EINVAL);
+    let Some(key) = find_key(features, command, view.key) else {
+        return Err(Status::EINVAL);
+    };
+    if view.value.len() > value_limit(command) {
+        return Err(Status::E2BIG);
     }
-    if frame.value.len() > value_limit(command) {
-        return Some(Status::E2BIG);
+    if !is_cas_taken(command, view.cas) {
+        return Err(Status::EINVAL);
     }
-    if !is_cas_taken(command, frame.cas) {
-        return Some(Status::EINVAL);
-    }
-    None
+    Ok(key)
 }
 
 /// The framing extra that asks for a level of durability, the first where there are several.
-fn find_level(frame: &Frame) -> Option<&FrameExtra>
-    ensures { option_copied result ≡ level_extra frame.now }
+fn find_level<'a>(view: &'a FrameView<'_>) -> Option<&'a FrameExtra>
+    ensures { option_copied result ≡ level_extra (frame_seen view.now) }
 {
-    frame
-        .framing
+    view.framing
         .as_slice()
         .iter()
         .find(|extra| extra.id == DURABILITY)
 }
 
 /// How many framing extras ask for a level of durability.
-fn count_levels(frame: &Frame) -> usize
-    ensures { result ≡ level_count frame.now }
+fn count_levels(view: &FrameView<'_>) -> usize
+    ensures { result ≡ level_count (frame_seen view.now) }
 {
-    frame
-        .framing
+    view.framing
         .as_slice()
         .iter()
         .filter(|extra| extra.id == DURABILITY)
@@ -176,12 +204,12 @@ fn durability(level: Option<&FrameExtra>) -> Option<Durability>
 }
 
 /// Whether extras, key and value are there as the command asks.
-fn has_form(frame: &Frame, command: Command) -> bool
-    ensures { result ≡ has_form frame.now command }
+fn has_form(view: &FrameView<'_>, command: Command) -> bool
+    ensures { result ≡ has_form (frame_seen view.now) command }
 {
-    let extras = frame.extras.len();
-    let key = frame.key.len();
-    let value = frame.value.len();
+    let extras = view.extras.len();
+    let key = view.key.len();
+    let value = view.value.len();
     match command {
         Command::Get | Command::GetKey | Command::Delete => extras == 0 && key > 0 && value == 0,
         Command::Set | Command::Add | Command::Replace => extras == 8 && key > 0,
@@ -225,8 +253,8 @@ fn name_limit(collection: u32) -> usize
 }
 
 /// The collection and the name that the bytes of a document's key spell, where they are within the limits.
-fn split_key<'a>(features: &Features, bytes: &'a [u8]) -> Option<(u32, &'a [u8])>
-    ensures { option_map (λ x. record { collection = x.0; key = x.1.now }) result ≡ key_from features.now.collections bytes.now }
+fn split_key<'a>(features: &Features, bytes: &'a [u8]) -> Option<KeyView<'a>>
+    ensures { option_map key_seen result ≡ key_from features.now.collections bytes.now }
 {
     let (collection, name) = if features.collections {
         match read_id(bytes) {
@@ -239,14 +267,21 @@ fn split_key<'a>(features: &Features, bytes: &'a [u8]) -> Option<(u32, &'a [u8])
     if name.is_empty() || name.len() > name_limit(collection) {
         return None;
     }
-    Some((collection, name))
+    Some(KeyView { collection, name })
 }
 
-/// Whether the key is one that a document may have, where it is a document's.
-fn is_key(features: &Features, command: Command, key: &[u8]) -> bool
-    ensures { result ≡ is_key features.now command key.now }
+/// The key where it is one that a document may have. A command that names no document gets one that is empty.
+fn find_key<'a>(features: &Features, command: Command, bytes: &'a [u8]) -> Option<KeyView<'a>>
+    ensures { FindsKey features.now command bytes.now result }
 {
-    !command.names_document() || split_key(features, key).is_some()
+    if command.names_document() {
+        split_key(features, bytes)
+    } else {
+        Some(KeyView {
+            collection: 0,
+            name: &[],
+        })
+    }
 }
 
 /// How many bytes a value has at most.
@@ -267,100 +302,107 @@ fn is_cas_taken(command: Command, cas: u64) -> bool
     command != Command::Add || cas == 0
 }
 
-/// What the request of a frame asks for, with a copy of the frame's key and value.
+/// A key with a copy of its name.
+fn copy_key(alloc: Global, key: KeyView<'_>) -> Result<DocKey, NoMemory>
+    ensures { IfOk result (λ made. made ≡ key_seen key.entry) }
+{
+    let name = Bytes::from_slice(alloc, key.name)?;
+    Ok(DocKey {
+        collection: key.collection,
+        key: name,
+    })
+}
+
+/// What the request of a frame with this key asks for, with a copy of the frame's value.
 fn body(
     alloc: Global,
-    frame: &Frame,
-    features: &Features,
+    view: &FrameView<'_>,
+    key: DocKey,
     command: Command,
 ) -> Result<Body, NoMemory>
-    requires { has_form frame.now command ≡ true }
-    ensures { IfOk result (λ made. made ≡ body_of features.now frame.now command) }
+    requires { has_form (frame_seen view.now) command ≡ true }
+    ensures { IfOk result (λ made. made ≡ body_with key (frame_seen view.now) command) }
 {
     match command {
-        Command::Get | Command::GetKey => Ok(Body::Get {
-            key: key_of(alloc, frame, features)?,
-        }),
-        Command::Set => store(alloc, frame, features, Mode::Set),
-        Command::Add => store(alloc, frame, features, Mode::Add),
-        Command::Replace => store(alloc, frame, features, Mode::Replace),
-        Command::Delete => Ok(Body::Delete {
-            key: key_of(alloc, frame, features)?,
-        }),
-        Command::Increment => count(alloc, frame, features, true),
-        Command::Decrement => count(alloc, frame, features, false),
-        Command::Append => join(alloc, frame, features, false),
-        Command::Prepend => join(alloc, frame, features, true),
-        Command::Touch => touch(alloc, frame, features, false),
-        Command::GetAndTouch => touch(alloc, frame, features, true),
+        Command::Get | Command::GetKey => Ok(Body::Get { key }),
+        Command::Set => store(alloc, view, key, Mode::Set),
+        Command::Add => store(alloc, view, key, Mode::Add),
+        Command::Replace => store(alloc, view, key, Mode::Replace),
+        Command::Delete => Ok(Body::Delete { key }),
+        Command::Increment => Ok(count(view, key, true)),
+        Command::Decrement => Ok(count(view, key, false)),
+        Command::Append => join(alloc, view, key, false),
+        Command::Prepend => join(alloc, view, key, true),
+        Command::Touch => Ok(touch(view, key, false)),
+        Command::GetAndTouch => Ok(touch(view, key, true)),
         Command::Quit => Ok(Body::Quit),
         Command::Noop => Ok(Body::Noop),
         Command::Version => Ok(Body::Version),
         Command::Hello => Ok(Body::Hello {
-            wanted: pairs(alloc, frame.value.as_slice())?,
+            wanted: pairs(alloc, view.value)?,
         }),
         Command::SetManifest => Ok(Body::SetManifest {
-            text: frame.value.copy(alloc)?,
+            text: Bytes::from_slice(alloc, view.value)?,
         }),
         Command::GetManifest => Ok(Body::GetManifest),
         Command::CollectionId => Ok(Body::CollectionId {
-            path: path_of(alloc, frame)?,
+            path: path_of(alloc, view)?,
         }),
         Command::ScopeId => Ok(Body::ScopeId {
-            path: path_of(alloc, frame)?,
+            path: path_of(alloc, view)?,
         }),
     }
 }
 
 /// A document to store.
-fn store(alloc: Global, frame: &Frame, features: &Features, mode: Mode) -> Result<Body, NoMemory>
-    requires { 8 ≤ length frame.now.extras }
-    ensures { IfOk result (λ made. made ≡ stored features.now frame.now mode) }
+fn store(alloc: Global, view: &FrameView<'_>, key: DocKey, mode: Mode) -> Result<Body, NoMemory>
+    requires { 8 ≤ length view.now.extras.now }
+    ensures { IfOk result (λ made. made ≡ stored key (frame_seen view.now) mode) }
 {
     Ok(Body::Store {
-        key: key_of(alloc, frame, features)?,
+        key,
         mode,
-        flags: word_at(0, frame.extras.as_slice()),
-        expiry: word_at(4, frame.extras.as_slice()),
-        value: frame.value.copy(alloc)?,
+        flags: word_at(0, view.extras),
+        expiry: word_at(4, view.extras),
+        value: Bytes::from_slice(alloc, view.value)?,
     })
 }
 
 /// A number to count.
-fn count(alloc: Global, frame: &Frame, features: &Features, up: bool) -> Result<Body, NoMemory>
-    requires { 20 ≤ length frame.now.extras }
-    ensures { IfOk result (λ made. made ≡ counted features.now frame.now up) }
+fn count(view: &FrameView<'_>, key: DocKey, up: bool) -> Body
+    requires { 20 ≤ length view.now.extras.now }
+    ensures { result ≡ counted key (frame_seen view.now) up }
 {
-    Ok(Body::Count {
-        key: key_of(alloc, frame, features)?,
+    Body::Count {
+        key,
         up,
-        delta: long_at(0, frame.extras.as_slice()),
-        initial: long_at(8, frame.extras.as_slice()),
-        expiry: word_at(16, frame.extras.as_slice()),
-    })
+        delta: long_at(0, view.extras),
+        initial: long_at(8, view.extras),
+        expiry: word_at(16, view.extras),
+    }
 }
 
 /// Bytes to add to a value.
-fn join(alloc: Global, frame: &Frame, features: &Features, front: bool) -> Result<Body, NoMemory>
-    ensures { IfOk result (λ made. made ≡ joined features.now frame.now front) }
+fn join(alloc: Global, view: &FrameView<'_>, key: DocKey, front: bool) -> Result<Body, NoMemory>
+    ensures { IfOk result (λ made. made ≡ joined key (frame_seen view.now) front) }
 {
     Ok(Body::Join {
-        key: key_of(alloc, frame, features)?,
+        key,
         front,
-        value: frame.value.copy(alloc)?,
+        value: Bytes::from_slice(alloc, view.value)?,
     })
 }
 
 /// A document to give an expiry.
-fn touch(alloc: Global, frame: &Frame, features: &Features, fetch: bool) -> Result<Body, NoMemory>
-    requires { 4 ≤ length frame.now.extras }
-    ensures { IfOk result (λ made. made ≡ touched features.now frame.now fetch) }
+fn touch(view: &FrameView<'_>, key: DocKey, fetch: bool) -> Body
+    requires { 4 ≤ length view.now.extras.now }
+    ensures { result ≡ touched key (frame_seen view.now) fetch }
 {
-    Ok(Body::Touch {
-        key: key_of(alloc, frame, features)?,
-        expiry: word_at(0, frame.extras.as_slice()),
+    Body::Touch {
+        key,
+        expiry: word_at(0, view.extras),
         fetch,
-    })
+    }
 }
 
 /// The numbers of two bytes each that the bytes are.
@@ -376,30 +418,14 @@ fn pairs(alloc: Global, bytes: &[u8]) -> Result<Seq<u16>, NoMemory>
     Ok(Seq::from_vec(numbers))
 }
 
-/// The document's key that a frame names.
-fn key_of(alloc: Global, frame: &Frame, features: &Features) -> Result<DocKey, NoMemory>
-    ensures { IfOk result (λ key. key ≡ key_of features.now frame.now) }
-{
-    match split_key(features, frame.key.as_slice()) {
-        Some((collection, name)) => {
-            let key = Bytes::from_slice(alloc, name)?;
-            Ok(DocKey { collection, key })
-        }
-        None => Ok(DocKey {
-            collection: 0,
-            key: Bytes::new(alloc),
-        }),
-    }
-}
-
 /// The path of a collection or a scope, which is the key or the value.
-fn path_of(alloc: Global, frame: &Frame) -> Result<Bytes, NoMemory>
-    ensures { IfOk result (λ path. path ≡ path_of frame.now) }
+fn path_of(alloc: Global, view: &FrameView<'_>) -> Result<Bytes, NoMemory>
+    ensures { IfOk result (λ path. path ≡ path_of (frame_seen view.now)) }
 {
-    if frame.key.is_empty() {
-        frame.value.copy(alloc)
+    if view.key.is_empty() {
+        Bytes::from_slice(alloc, view.value)
     } else {
-        frame.key.copy(alloc)
+        Bytes::from_slice(alloc, view.key)
     }
 }
 
@@ -409,8 +435,10 @@ fn word_at(offset: usize, extras: &[u8]) -> u32
     ensures { result ≡ word_at offset extras.now }
 {
     let (_, rest) = extras.split_at(offset);
-    let (word, _) = rest.split_at(4);
-    u32::from_be_bytes([word[0], word[1], word[2], word[3]])
+    match u32_at(rest) {
+        Some((word, _)) => word,
+        None => unreachable!("the extras are long enough"),
+    }
 }
 
 /// The number that eight bytes of the extras are.
@@ -419,8 +447,8 @@ fn long_at(offset: usize, extras: &[u8]) -> u64
     ensures { result ≡ long_at offset extras.now }
 {
     let (_, rest) = extras.split_at(offset);
-    let (word, _) = rest.split_at(8);
-    u64::from_be_bytes([
-        word[0], word[1], word[2], word[3], word[4], word[5], word[6], word[7],
-    ])
+    match u64_at(rest) {
+        Some((word, _)) => word,
+        None => unreachable!("the extras are long enough"),
+    }
 }

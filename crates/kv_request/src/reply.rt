@@ -1,8 +1,8 @@
-ghost use Rattle.std.specs.Prelude.{◌≡◌, IfOk};
+ghost use Rattle.std.specs.Prelude.{◌≡◌};
 ghost use Rattle.kv_request.specs.Tables.{refused, IsReply};
 
 use doc_model::{DocKey, Status};
-use kv_edge::{Bytes, Copied, NoMemory};
+use kv_edge::Bytes;
 use std::alloc::Global;
 
 /// A reply. Its CAS is 0 where nothing is said of one.
@@ -45,35 +45,5 @@ pub fn refusal(alloc: Global, opcode: u8, opaque: u32, status: Status) -> Reply
         extras: Bytes::new(alloc),
         key: None,
         value: Bytes::new(alloc),
-    }
-}
-
-impl Copied for Reply {
-    fn copy(&self, alloc: Global) -> Result<Reply, NoMemory> {
-        let extras = self.extras.copy(alloc)?;
-        let key = copy_key(alloc, &self.key)?;
-        let value = self.value.copy(alloc)?;
-        Ok(Reply {
-            opcode: self.opcode,
-            opaque: self.opaque,
-            status: self.status,
-            cas: self.cas,
-            json: self.json,
-            flags: self.flags,
-            token: self.token,
-            extras,
-            key,
-            value,
-        })
-    }
-}
-
-/// An equal key, where there is one.
-fn copy_key(alloc: Global, key: &Option<DocKey>) -> Result<Option<DocKey>, NoMemory>
-    ensures { IfOk result (λ made. made ≡ key.now) }
-{
-    match key {
-        Some(key) => Ok(Some(key.copy(alloc)?)),
-        None => Ok(None),
     }
 }

@@ -1,8 +1,5 @@
-ghost use Rattle.std.specs.Prelude.{◌≡◌, IfOk};
-
 use doc_model::DocKey;
-use kv_edge::{Bytes, Copied, NoMemory, Seq};
-use std::alloc::Global;
+use kv_edge::{Bytes, Seq};
 
 /// What a connection asked for and was granted.
 #[derive(Clone, Copy, Debug, PartialEq, Eq)]
@@ -114,91 +111,4 @@ pub struct Request {
     /// The level that the client waits for, where it asks for one.
     pub durability: Option<Durability>,
     pub body: Body,
-}
-
-impl Copied for Body {
-    fn copy(&self, alloc: Global) -> Result<Body, NoMemory> {
-        match self {
-            Body::Hello { wanted } => Ok(Body::Hello {
-                wanted: copy_numbers(alloc, wanted.as_slice())?,
-            }),
-            Body::Noop => Ok(Body::Noop),
-            Body::Version => Ok(Body::Version),
-            Body::Quit => Ok(Body::Quit),
-            Body::Get { key } => Ok(Body::Get {
-                key: key.copy(alloc)?,
-            }),
-            Body::Store {
-                key,
-                mode,
-                flags,
-                expiry,
-                value,
-            } => Ok(Body::Store {
-                key: key.copy(alloc)?,
-                mode: *mode,
-                flags: *flags,
-                expiry: *expiry,
-                value: value.copy(alloc)?,
-            }),
-            Body::Delete { key } => Ok(Body::Delete {
-                key: key.copy(alloc)?,
-            }),
-            Body::Count {
-                key,
-                up,
-                delta,
-                initial,
-                expiry,
-            } => Ok(Body::Count {
-                key: key.copy(alloc)?,
-                up: *up,
-                delta: *delta,
-                initial: *initial,
-                expiry: *expiry,
-            }),
-            Body::Join { key, front, value } => Ok(Body::Join {
-                key: key.copy(alloc)?,
-                front: *front,
-                value: value.copy(alloc)?,
-            }),
-            Body::Touch { key, expiry, fetch } => Ok(Body::Touch {
-                key: key.copy(alloc)?,
-                expiry: *expiry,
-                fetch: *fetch,
-            }),
-            Body::SetManifest { text } => Ok(Body::SetManifest {
-                text: text.copy(alloc)?,
-            }),
-            Body::GetManifest => Ok(Body::GetManifest),
-            Body::CollectionId { path } => Ok(Body::CollectionId {
-                path: path.copy(alloc)?,
-            }),
-            Body::ScopeId { path } => Ok(Body::ScopeId {
-                path: path.copy(alloc)?,
-            }),
-        }
-    }
-}
-
-/// An equal list of numbers.
-fn copy_numbers(alloc: Global, numbers: &[u16]) -> Result<Seq<u16>, NoMemory>
-    ensures { IfOk result (λ made. made ≡ numbers.now) }
-{
-    let numbers = Vec::from_slice(alloc, numbers)?;
-    Ok(Seq::from_vec(numbers))
-}
-
-impl Copied for Request {
-    fn copy(&self, alloc: Global) -> Result<Request, NoMemory> {
-        let body = self.body.copy(alloc)?;
-        Ok(Request {
-            opcode: self.opcode,
-            opaque: self.opaque,
-            cas: self.cas,
-            vbucket: self.vbucket,
-            durability: self.durability,
-            body,
-        })
-    }
 }

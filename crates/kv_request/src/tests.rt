@@ -2,6 +2,7 @@ ghost use Rattle.std.specs.Prelude.{◌≡◌, IfOk};
 
 use crate::{Body, Durability, Features, Mode, Reply, Request, read_request, refusal, write_reply};
 use doc_model::{DocKey, Refused, Status};
+use hex_rows::bytes_of;
 use kv_edge::{Bytes, NoMemory, Seq};
 use kv_frame::{Frame, Magic, Side, Step, decode};
 use std::alloc::Global;
@@ -25,30 +26,9 @@ const ALL_GRANTED: Features = Features {
     collections: true,
 };
 
-/// The bytes of hexadecimal digits. Blanks between them are for reading.
-fn hex(alloc: Global, text: &str) -> Result<Vec<u8>, Fail> {
-    let mut bytes = Vec::new(alloc);
-    let mut high = None;
-    for digit in text.bytes() {
-        let digit = match digit {
-            b'0'..=b'9' => digit - b'0',
-            b'a'..=b'f' => digit - b'a' + 10,
-            _ => continue,
-        };
-        match high {
-            None => high = Some(digit << 4),
-            Some(above) => {
-                bytes.push(above | digit)?;
-                high = None;
-            }
-        }
-    }
-    Ok(bytes)
-}
-
 /// The frame that all of the bytes are.
 fn frame_of(alloc: Global, text: &str) -> Result<Frame, Fail> {
-    let bytes = hex(alloc, text)?;
+    let bytes = bytes_of(alloc, text)?;
     match decode(alloc, Side::Requests, &bytes) {
         Ok(Step::Whole(frame, used)) if used == bytes.len() => Ok(frame),
         _ => Err("the bytes are no whole frame")?,
@@ -198,42 +178,44 @@ fn kind(body: &Body) -> &'static str {
     }
 }
 
+/// Opcodes with the lengths of extras and key that they ask for, and what is read.
+const OPCODES: [(u8, usize, usize, &str); 30] = [
+    (0x00, 0, 1, "get"),
+    (0x01, 8, 1, "set"),
+    (0x02, 8, 1, "add"),
+    (0x03, 8, 1, "replace"),
+    (0x04, 0, 1, "delete"),
+    (0x05, 20, 1, "up"),
+    (0x06, 20, 1, "down"),
+    (0x07, 0, 0, "quit"),
+    (0x09, 0, 1, "get"),
+    (0x0a, 0, 0, "noop"),
+    (0x0b, 0, 0, "version"),
+    (0x0c, 0, 1, "get"),
+    (0x0d, 0, 1, "get"),
+    (0x0e, 0, 1, "behind"),
+    (0x0f, 0, 1, "before"),
+    (0x11, 8, 1, "set"),
+    (0x12, 8, 1, "add"),
+    (0x13, 8, 1, "replace"),
+    (0x14, 0, 1, "delete"),
+    (0x15, 20, 1, "up"),
+    (0x16, 20, 1, "down"),
+    (0x17, 0, 0, "quit"),
+    (0x19, 0, 1, "behind"),
+    (0x1a, 0, 1, "before"),
+    (0x1c, 4, 1, "touch"),
+    (0x1d, 4, 1, "touch and get"),
+    (0x1f, 0, 0, "hello"),
+    (0xba, 0, 0, "get manifest"),
+    (0xbb, 0, 1, "collection"),
+    (0xbc, 0, 1, "scope"),
+];
+
 #[test]
 fn each_opcode_asks_for_its_own(rt: HostRuntime) -> Result<(), Fail> {
     let alloc = rt.alloc();
-    let rows = [
-        (0x00, 0, 1, "get"),
-        (0x01, 8, 1, "set"),
-        (0x02, 8, 1, "add"),
-        (0x03, 8, 1, "replace"),
-        (0x04, 0, 1, "delete"),
-        (0x05, 20, 1, "up"),
-        (0x06, 20, 1, "down"),
-        (0x07, 0, 0, "quit"),
-        (0x09, 0, 1, "get"),
-        (0x0a, 0, 0, "noop"),
-        (0x0b, 0, 0, "version"),
-        (0x0c, 0, 1, "get"),
-        (0x0d, 0, 1, "get"),
-        (0x0e, 0, 1, "behind"),
-        (0x0f, 0, 1, "before"),
-        (0x11, 8, 1, "set"),
-        (0x12, 8, 1, "add"),
-        (0x13, 8, 1, "replace"),
-        (0x14, 0, 1, "delete"),
-        (0x15, 20, 1, "up"),
-        (0x16, 20, 1, "down"),
-        (0x17, 0, 0, "quit"),
-        (0x19, 0, 1, "behind"),
-        (0x1a, 0, 1, "before"),
-        (0x1c, 4, 1, "touch"),
-        (0x1d, 4, 1, "touch and get"),
-        (0x1f, 0, 0, "hello"),
-        (0xba, 0, 0, "get manifest"),
-        (0xbb, 0, 1, "collection"),
-        (0xbc, 0, 1, "scope"),
-    ];
-    for (opcode, extras, letters, wanted) in rows {
+    for (opcode, extras, letters, wanted) in OPCODES {
         let frame = frame_with(alloc, opcode, extras, letters)?;
         let made = read_request(alloc, &frame, &NOTHING_GRANTED)?;
         assert_eq!(rt; kind(&made.body), wanted, "{opcode:02x}");
@@ -244,78 +226,80 @@ fn each_opcode_asks_for_its_own(rt: HostRuntime) -> Result<(), Fail> {
     Ok(())
 }
 
+/// Frames with framing extras, by what they show: the status, and level and timeout where they pass.
+const LEVELS: [(&str, &str, u16, Option<(u8, u16)>); 11] = [
+    (
+        "alone",
+        "08 01 02 01 08 00 0000 0000000c 00000005 0000000000000000 1101 0000000000000000 61 31",
+        0x0000,
+        Some((1, 30_000)),
+    ),
+    (
+        "with a timeout",
+        "08 01 04 01 08 00 0000 0000000e 00000005 0000000000000000 13011388 0000000000000000 61 31",
+        0x0000,
+        Some((1, 5_000)),
+    ),
+    (
+        "the greatest, behind an extra of another id",
+        "08 01 04 01 08 00 0000 0000000e 00000005 0000000000000000 21041103 0000000000000000 61 31",
+        0x0000,
+        Some((3, 30_000)),
+    ),
+    (
+        "none among extras of other ids",
+        "08 01 02 01 08 00 0000 0000000c 00000005 0000000000000000 2104 0000000000000000 61 31",
+        0x0000,
+        None,
+    ),
+    (
+        "timeout 0",
+        "08 01 04 01 08 00 0000 0000000e 00000005 0000000000000000 13010000 0000000000000000 61 31",
+        0x0004,
+        None,
+    ),
+    (
+        "timeout 0 of a level that isn't there",
+        "08 01 04 01 08 00 0000 0000000e 00000005 0000000000000000 13040000 0000000000000000 61 31",
+        0x0004,
+        None,
+    ),
+    (
+        "a fourth",
+        "08 01 02 01 08 00 0000 0000000c 00000005 0000000000000000 1104 0000000000000000 61 31",
+        0x00a0,
+        None,
+    ),
+    (
+        "level 0, without the extras of a Set",
+        "08 01 02 01 00 00 0000 00000003 00000005 0000000000000000 1100 61",
+        0x00a0,
+        None,
+    ),
+    (
+        "of two bytes",
+        "08 01 03 01 08 00 0000 0000000d 00000005 0000000000000000 120113 0000000000000000 61 31",
+        0x0004,
+        None,
+    ),
+    (
+        "twice",
+        "08 01 04 01 08 00 0000 0000000e 00000005 0000000000000000 11011101 0000000000000000 61 31",
+        0x0004,
+        None,
+    ),
+    (
+        "on a Get",
+        "08 00 02 01 00 00 0000 00000003 00000005 0000000000000000 1101 61",
+        0x0004,
+        None,
+    ),
+];
+
 #[test]
 fn a_level_is_read_or_refused(rt: HostRuntime) -> Result<(), Fail> {
     let alloc = rt.alloc();
-    let rows = [
-        (
-            "alone",
-            "08 01 02 01 08 00 0000 0000000c 00000005 0000000000000000 1101 0000000000000000 61 31",
-            0x0000,
-            Some((1, 30_000)),
-        ),
-        (
-            "with a timeout",
-            "08 01 04 01 08 00 0000 0000000e 00000005 0000000000000000 13011388 0000000000000000 61 31",
-            0x0000,
-            Some((1, 5_000)),
-        ),
-        (
-            "the greatest, behind an extra of another id",
-            "08 01 04 01 08 00 0000 0000000e 00000005 0000000000000000 21041103 0000000000000000 61 31",
-            0x0000,
-            Some((3, 30_000)),
-        ),
-        (
-            "none among extras of other ids",
-            "08 01 02 01 08 00 0000 0000000c 00000005 0000000000000000 2104 0000000000000000 61 31",
-            0x0000,
-            None,
-        ),
-        (
-            "timeout 0",
-            "08 01 04 01 08 00 0000 0000000e 00000005 0000000000000000 13010000 0000000000000000 61 31",
-            0x0004,
-            None,
-        ),
-        (
-            "timeout 0 of a level that isn't there",
-            "08 01 04 01 08 00 0000 0000000e 00000005 0000000000000000 13040000 0000000000000000 61 31",
-            0x0004,
-            None,
-        ),
-        (
-            "a fourth",
-            "08 01 02 01 08 00 0000 0000000c 00000005 0000000000000000 1104 0000000000000000 61 31",
-            0x00a0,
-            None,
-        ),
-        (
-            "level 0, without the extras of a Set",
-            "08 01 02 01 00 00 0000 00000003 00000005 0000000000000000 1100 61",
-            0x00a0,
-            None,
-        ),
-        (
-            "of two bytes",
-            "08 01 03 01 08 00 0000 0000000d 00000005 0000000000000000 120113 0000000000000000 61 31",
-            0x0004,
-            None,
-        ),
-        (
-            "twice",
-            "08 01 04 01 08 00 0000 0000000e 00000005 0000000000000000 11011101 0000000000000000 61 31",
-            0x0004,
-            None,
-        ),
-        (
-            "on a Get",
-            "08 00 02 01 00 00 0000 00000003 00000005 0000000000000000 1101 61",
-            0x0004,
-            None,
-        ),
-    ];
-    for (name, text, status, level) in rows {
+    for (name, text, status, level) in LEVELS {
         let wanted = level.map(|(level, timeout)| Durability { level, timeout });
         let frame = frame_of(alloc, text)?;
         assert_eq!(rt; outcome(alloc, &frame)?, (status, wanted), "{name}");
@@ -323,112 +307,114 @@ fn a_level_is_read_or_refused(rt: HostRuntime) -> Result<(), Fail> {
     Ok(())
 }
 
+/// Frames by what is wrong with them, and the status.
+const FIRST_FAULTS: [(&str, &str, u16); 20] = [
+    (
+        "the first opcode of streams, datatype 2",
+        "80 50 0000 00 02 0000 00000000 00000001 0000000000000000",
+        0x0083,
+    ),
+    (
+        "the last opcode of streams",
+        "80 6f 0000 00 00 0000 00000000 00000001 0000000000000000",
+        0x0083,
+    ),
+    (
+        "the opcode before those of streams, datatype 2",
+        "80 4f 0000 00 02 0000 00000000 00000001 0000000000000000",
+        0x0081,
+    ),
+    (
+        "the opcode behind those of streams",
+        "80 70 0000 00 00 0000 00000000 00000001 0000000000000000",
+        0x0081,
+    ),
+    (
+        "datatype 2, a fourth level",
+        "08 01 02 01 08 02 0000 0000000b 00000001 0000000000000000 1104 0000000000000000 61",
+        0x0004,
+    ),
+    (
+        "a Get of datatype 1",
+        "80 00 0001 00 01 0000 00000001 00000001 0000000000000000 61",
+        0x0000,
+    ),
+    (
+        "a Get without a key",
+        "80 00 0000 00 00 0000 00000000 00000001 0000000000000000",
+        0x0004,
+    ),
+    (
+        "a Get with a value",
+        "80 00 0001 00 00 0000 00000002 00000001 0000000000000000 61 31",
+        0x0004,
+    ),
+    (
+        "an Increment with a value",
+        "80 05 0001 14 00 0000 00000016 00000001 0000000000000000 0000000000000001 0000000000000005 00000000 6e 31",
+        0x0004,
+    ),
+    (
+        "a Noop with a key",
+        "80 0a 0001 00 00 0000 00000001 00000001 0000000000000000 61",
+        0x0004,
+    ),
+    (
+        "a Hello with an odd value",
+        "80 1f 0001 00 00 0000 00000004 00000001 0000000000000000 61 000400",
+        0x0004,
+    ),
+    (
+        "an Add with a CAS",
+        "80 02 0001 08 00 0000 00000009 00000001 0000000000000001 0000000000000000 61",
+        0x0004,
+    ),
+    (
+        "a manifest to set, without a text",
+        "80 b9 0000 00 00 0000 00000000 00000001 0000000000000000",
+        0x0004,
+    ),
+    (
+        "a manifest to set, with a key",
+        "80 b9 0001 00 00 0000 00000003 00000001 0000000000000000 61 7b7d",
+        0x0004,
+    ),
+    (
+        "a manifest to get, with a value",
+        "80 ba 0000 00 00 0000 00000002 00000001 0000000000000000 7b7d",
+        0x0004,
+    ),
+    (
+        "a collection without a path",
+        "80 bb 0000 00 00 0000 00000000 00000001 0000000000000000",
+        0x0004,
+    ),
+    (
+        "a collection with two paths",
+        "80 bb 0003 00 00 0000 00000006 00000001 0000000000000000 732e63 732e63",
+        0x0004,
+    ),
+    (
+        "a scope without a path",
+        "80 bc 0000 00 00 0000 00000000 00000001 0000000000000000",
+        0x0004,
+    ),
+    (
+        "a scope with two paths",
+        "80 bc 0001 00 00 0000 00000002 00000001 0000000000000000 73 73",
+        0x0004,
+    ),
+    (
+        "a Replace with a CAS",
+        "80 03 0001 08 00 0000 00000009 00000001 0000000000000001 0000000000000000 61",
+        0x0000,
+    ),
+];
+
 #[test]
 fn the_first_check_that_fails_gives_the_status(rt: HostRuntime) -> Result<(), Fail> {
     let alloc = rt.alloc();
-    let rows = [
-        (
-            "the first opcode of streams, datatype 2",
-            "80 50 0000 00 02 0000 00000000 00000001 0000000000000000",
-            0x0083,
-        ),
-        (
-            "the last opcode of streams",
-            "80 6f 0000 00 00 0000 00000000 00000001 0000000000000000",
-            0x0083,
-        ),
-        (
-            "the opcode before those of streams, datatype 2",
-            "80 4f 0000 00 02 0000 00000000 00000001 0000000000000000",
-            0x0081,
-        ),
-        (
-            "the opcode behind those of streams",
-            "80 70 0000 00 00 0000 00000000 00000001 0000000000000000",
-            0x0081,
-        ),
-        (
-            "datatype 2, a fourth level",
-            "08 01 02 01 08 02 0000 0000000b 00000001 0000000000000000 1104 0000000000000000 61",
-            0x0004,
-        ),
-        (
-            "a Get of datatype 1",
-            "80 00 0001 00 01 0000 00000001 00000001 0000000000000000 61",
-            0x0000,
-        ),
-        (
-            "a Get without a key",
-            "80 00 0000 00 00 0000 00000000 00000001 0000000000000000",
-            0x0004,
-        ),
-        (
-            "a Get with a value",
-            "80 00 0001 00 00 0000 00000002 00000001 0000000000000000 61 31",
-            0x0004,
-        ),
-        (
-            "an Increment with a value",
-            "80 05 0001 14 00 0000 00000016 00000001 0000000000000000 0000000000000001 0000000000000005 00000000 6e 31",
-            0x0004,
-        ),
-        (
-            "a Noop with a key",
-            "80 0a 0001 00 00 0000 00000001 00000001 0000000000000000 61",
-            0x0004,
-        ),
-        (
-            "a Hello with an odd value",
-            "80 1f 0001 00 00 0000 00000004 00000001 0000000000000000 61 000400",
-            0x0004,
-        ),
-        (
-            "an Add with a CAS",
-            "80 02 0001 08 00 0000 00000009 00000001 0000000000000001 0000000000000000 61",
-            0x0004,
-        ),
-        (
-            "a manifest to set, without a text",
-            "80 b9 0000 00 00 0000 00000000 00000001 0000000000000000",
-            0x0004,
-        ),
-        (
-            "a manifest to set, with a key",
-            "80 b9 0001 00 00 0000 00000003 00000001 0000000000000000 61 7b7d",
-            0x0004,
-        ),
-        (
-            "a manifest to get, with a value",
-            "80 ba 0000 00 00 0000 00000002 00000001 0000000000000000 7b7d",
-            0x0004,
-        ),
-        (
-            "a collection without a path",
-            "80 bb 0000 00 00 0000 00000000 00000001 0000000000000000",
-            0x0004,
-        ),
-        (
-            "a collection with two paths",
-            "80 bb 0003 00 00 0000 00000006 00000001 0000000000000000 732e63 732e63",
-            0x0004,
-        ),
-        (
-            "a scope without a path",
-            "80 bc 0000 00 00 0000 00000000 00000001 0000000000000000",
-            0x0004,
-        ),
-        (
-            "a scope with two paths",
-            "80 bc 0001 00 00 0000 00000002 00000001 0000000000000000 73 73",
-            0x0004,
-        ),
-        (
-            "a Replace with a CAS",
-            "80 03 0001 08 00 0000 00000009 00000001 0000000000000001 0000000000000000 61",
-            0x0000,
-        ),
-    ];
-    for (name, text, status) in rows {
+    for (name, text, status) in FIRST_FAULTS {
         let frame = frame_of(alloc, text)?;
         assert_eq!(rt; outcome(alloc, &frame)?, (status, None), "{name}");
     }
@@ -537,14 +523,14 @@ fn a_key_begins_with_its_collection_where_those_are_granted(rt: HostRuntime) -> 
         ("00", None),
     ];
     for (spelling, wanted) in rows {
-        let key = Bytes::from_vec(hex(alloc, spelling)?);
+        let key = Bytes::from_vec(bytes_of(alloc, spelling)?);
         assert_eq!(rt;
             split(alloc, key, &COLLECTIONS_GRANTED)?,
             wanted,
             "{spelling}"
         );
     }
-    let key = Bytes::from_vec(hex(alloc, "0861")?);
+    let key = Bytes::from_vec(bytes_of(alloc, "0861")?);
     assert_eq!(rt; split(alloc, key, &NOTHING_GRANTED)?, Some((0, 2)));
     Ok(())
 }
@@ -613,7 +599,7 @@ fn a_reply_to_a_get_has_its_flags_in_front(rt: HostRuntime) -> Result<(), Fail> 
     let full = write_reply(alloc, &reply, &ALL_GRANTED)?.ok_or("it is sent")?;
     assert_eq!(rt; full.datatype, 1);
     assert_eq!(rt; full.key.as_slice(), [0x08, b'a'].as_slice());
-    let wanted = hex(alloc, "0000002a 0000000000000004 0000000000000009 65")?;
+    let wanted = bytes_of(alloc, "0000002a 0000000000000004 0000000000000009 65")?;
     assert_eq!(rt; full.extras.as_slice(), wanted.as_slice());
     Ok(())
 }

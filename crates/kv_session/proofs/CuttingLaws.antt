@@ -153,12 +153,12 @@ one_reading bytes frames others rest left read done other ended =
 as_sent : (f : Frame) → IsSent f → IsFrame Requests f (spelling f)
 as_sent f sent = record { of_side = sent.of_side; fits = sent.fits; spelled = refl }
 
-lacking_begins_none : (bytes : List ℕ) (n : ℕ) → Lacks Requests bytes n → NoFrameBegins bytes
+pub lacking_begins_none : (bytes : List ℕ) (n : ℕ) → Lacks Requests bytes n → NoFrameBegins bytes
 lacking_begins_none bytes n lacks f more sent e =
     let told : judged.More n ≡ judged.Whole (length (spelling f)) = judges_only Requests bytes (judged.More n) f more (as_sent f sent) e lacks in
     absurd (cc)
 
-bad_begins_none : (bytes : List ℕ) (place : ℕ) (fault : Fault) → IsBad Requests bytes place fault → NoFrameBegins bytes
+pub bad_begins_none : (bytes : List ℕ) (place : ℕ) (fault : Fault) → IsBad Requests bytes place fault → NoFrameBegins bytes
 bad_begins_none bytes place fault bad f more sent e =
     let told : judged.Bad place fault ≡ judged.Whole (length (spelling f)) = judges_only Requests bytes (judged.Bad place fault) f more (as_sent f sent) e bad in
     absurd (cc)

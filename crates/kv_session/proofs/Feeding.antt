@@ -27,7 +27,7 @@ feeds_by r old features quit held piece new is going done =
 
 -- ---- where none is taken
 
-none_left : (piece : List ℕ) → length piece ≡ 0 → piece ≡ []
+pub none_left : (piece : List ℕ) → length piece ≡ 0 → piece ≡ []
 none_left [] e = refl
 none_left (byte ∷ piece) e = absurd (omega (arith, e))
 

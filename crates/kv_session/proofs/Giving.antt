@@ -1,9 +1,7 @@
 -- What is given out of a frame.
-use Rattle.std.proofs.Common.{◌≡◌, ℕ, Bool, false, List, [], length, drop, sym, Result, Ok, Err, refl, ap, subst}
+use Rattle.std.proofs.Common.{◌≡◌, ℕ, Bool, false, List, [], length, drop, sym, Result, Ok, Err, refl, ap, subst, ◌∙◌}
 use Rattle.std.proofs.Math.Seq.{drop-length}
 use Rattle.kv_frame.specs.declared.frame.Frame.{Frame}
-use Rattle.kv_frame.specs.declared.frame.Side.TheVariants.{Requests}
-use Rattle.kv_frame.specs.Judging.{BeginsWith}
 use Rattle.doc_model.specs.declared.status.Status.{Status}
 use Rattle.kv_request.specs.declared.request.Features.{Features}
 use Rattle.kv_request.specs.declared.request.Request.{Request}
@@ -13,10 +11,13 @@ use Rattle.kv_request.specs.declared.reply.Reply.{Reply}
 use Rattle.kv_request.specs.Tables.{request, IsReply, IsRequest, is_for_session}
 use Rattle.kv_session.specs.declared.answers.Made.{Made}
 use Rattle.kv_session.specs.declared.answers.Made.TheVariants as mades
+use Rattle.kv_session.specs.declared.finding.Found.{Found}
+use Rattle.kv_session.specs.declared.finding.Found.TheVariants as founds
+use Rattle.kv_session.specs.declared.session.Next.{Next}
 use Rattle.kv_session.specs.declared.session.Next.TheVariants as nexts
 use Rattle.kv_session.specs.Answers as answers
 use Rattle.kv_session.specs.Answers.{made_of, made_from, made_by}
-use Rattle.kv_session.specs.Making.{Makes, Spells}
+use Rattle.kv_session.specs.Making.{Spells, IsMadeOf, FindsIn, HandsOut}
 use Rattle.kv_session.specs.Session.{Line, Gives}
 use Rattle.kv_session.proofs.Feeding.{line_of}
 
@@ -45,39 +46,42 @@ passed_from features f (Ok other) made e =
     subst (λ (r : Request). is_for_session r.body ≡ false) (passed_same features other made other.body e) (passed_other features other made other.body e)
 passed_from features f (Err refusing) made e = absurd (cc)
 
-pub passed_not_own : (features : Features) (f : Frame) (d : Made) (made other : Request) → Makes (made_by features f) d → d ≡ mades.Passed made → nexts.Request made ≡ nexts.Request other → is_for_session other.body ≡ false
-passed_not_own features f d made other makes is e =
-    let m : made_by features f ≡ answers.Passed made = subst (Makes (made_by features f)) is makes in
-    let same : made ≡ other = cc in
-    subst (λ (r : Request). is_for_session r.body ≡ false) same (passed_from features f (request features f) made m)
+-- a request that is given out is some frame's
+pub gives_request : (old new : Line) (made : Request) → Gives old new (nexts.Request made) → IsRequest made
+gives_request old new made (going, f, used, begins, m, is) = (old.features, f, begins.1.fits, passed_read old.features f (request old.features f) made m)
 
-pub passed_request : (held : List ℕ) (features : Features) (f : Frame) (used : ℕ) (d : Made) (made other : Request) → BeginsWith Requests held f used → Makes (made_by features f) d → d ≡ mades.Passed made
-    → nexts.Request made ≡ nexts.Request other → IsRequest other
-passed_request held features f used d made other begins makes is e =
-    let m : made_by features f ≡ answers.Passed made = subst (Makes (made_by features f)) is makes in
-    let same : made ≡ other = cc in
-    subst IsRequest same (features, f, begins.1.fits, passed_read features f (request features f) made m)
+-- and it asks something of a vbucket
+pub gives_other : (old new : Line) (made : Request) → Gives old new (nexts.Request made) → is_for_session made.body ≡ false
+gives_other old new made (going, f, used, begins, m, is) = passed_from old.features f (request old.features f) made m
 
-pub told_reply : (d : Made) (reply other : Reply) (features : Features) (quit : Bool) → Spells d → d ≡ mades.Told reply features quit → nexts.Refused reply ≡ nexts.Refused other → IsReply other
-told_reply d reply other features quit spells is e =
-    let same : reply ≡ other = cc in
-    subst IsReply same (subst Spells is spells)
+-- what was found at the front of what is held was made of it
+pub found_made : (features : Features) (quit : Bool) (held bytes : List ℕ) (old : Line) (found : Found) (made : Made) (used : ℕ) → line_of features quit held ≡ old → bytes ≡ held
+    → FindsIn features bytes found → found ≡ founds.Frame made used → IsMadeOf old.features old.held made used
+found_made features quit held bytes old found made used is same finds found-is =
+    let one : IsMadeOf features bytes made used = subst (FindsIn features bytes) found-is finds in
+    let two : IsMadeOf features held made used = subst (λ (l : List ℕ). IsMadeOf features l made used) same one in
+    subst (λ (line : Line). IsMadeOf line.features line.held made used) is two
 
-pub passed_gives : (old : Line) (features : Features) (quit : Bool) (held new : List ℕ) (f : Frame) (used : ℕ) (d : Made) (made : Request) → line_of features quit held ≡ old → old.quit ≡ false
-    → BeginsWith Requests old.held f used → Makes (made_by features f) d → d ≡ mades.Passed made → new ≡ drop used held → Gives old (line_of features quit new) (nexts.Request made)
-passed_gives old features quit held new f used d made is going begins makes d-is new-is =
-    subst (λ (old : Line). old.quit ≡ false → BeginsWith Requests old.held f used → Gives old (line_of features quit new) (nexts.Request made)) is
-    (λ still starts. (still, f, used, starts, subst (Makes (made_by features f)) d-is makes, ap (line_of features quit) new-is))
-    going begins
+-- what was found at the front of a piece was made of it
+pub line_found : (features : Features) (quit : Bool) (held piece : List ℕ) (old : Line) (found : Found) (made : Made) (used : ℕ) → line_of features quit held ≡ old
+    → FindsIn features piece found → found ≡ founds.Frame made used → IsMadeOf old.features piece made used
+line_found features quit held piece old found made used is finds found-is =
+    let one : IsMadeOf features piece made used = subst (FindsIn features piece) found-is finds in
+    subst (λ (line : Line). IsMadeOf line.features piece made used) is one
 
-pub told_gives : (old : Line) (features : Features) (quit : Bool) (held new : List ℕ) (f : Frame) (used : ℕ) (d : Made) (reply : Reply) (changed : Features) (ends : Bool) → line_of features quit held ≡ old → old.quit ≡ false
-    → BeginsWith Requests old.held f used → Makes (made_by features f) d → d ≡ mades.Told reply changed ends → new ≡ drop used held → Gives old (line_of changed ends new) (nexts.Refused reply)
-told_gives old features quit held new f used d reply changed ends is going begins makes d-is new-is =
-    subst (λ (old : Line). old.quit ≡ false → BeginsWith Requests old.held f used → Gives old (line_of changed ends new) (nexts.Refused reply)) is
-    (λ still starts. (still, f, used, changed, ends, starts, subst (Makes (made_by features f)) d-is makes, ap (line_of changed ends) new-is))
-    going begins
+-- what was made of all that is held is given out
+pub hands_gives : (old line new : Line) (made : Made) (used : ℕ) (next : Next) → line.features ≡ old.features → line.quit ≡ old.quit → line.quit ≡ false → IsMadeOf line.features line.held made used → used ≡ length line.held
+    → HandsOut old made new next → Gives line new next
+hands_gives old line new (mades.Passed made) used next same ends going m all (next-is, new-is) =
+    let empty : drop used line.held ≡ [] = ap (λ (n : ℕ). drop n line.held) all ∙ drop-length line.held in
+    let left : new ≡ line_of line.features line.quit (drop used line.held) =
+    new-is ∙ ap (λ (x : Features). line_of x old.quit []) (sym same) ∙ ap (λ (b : Bool). line_of line.features b []) (sym ends) ∙ ap (line_of line.features line.quit) (sym empty) in
+    subst (Gives line new) (sym next-is) (going, m.frame, used, m.begins, m.makes, left)
+hands_gives old line new (mades.Told reply features quit) used next same ends going m all (next-is, new-is) =
+    let empty : drop used line.held ≡ [] = ap (λ (n : ℕ). drop n line.held) all ∙ drop-length line.held in
+    subst (Gives line new) (sym next-is) (going, m.frame, used, features, quit, m.begins, m.makes, new-is ∙ ap (line_of features quit) (sym empty))
 
--- nothing is left where all that was held is given out
-pub emptied : (old : Line) (features : Features) (quit : Bool) (held : List ℕ) → line_of features quit held ≡ old → [] ≡ drop (length old.held) held
-emptied old features quit held is =
-    subst (λ (n : ℕ). [] ≡ drop n held) (ap (λ (line : Line). length line.held) is) (sym (drop-length held))
+-- a reply of the session's own that is given out has a frame
+pub hands_reply : (old new : Line) (made : Made) (next : Next) (reply : Reply) → Spells made → HandsOut old made new next → next ≡ nexts.Refused reply → IsReply reply
+hands_reply old new (mades.Passed made) next reply spells (is, left) e = absurd (cc)
+hands_reply old new (mades.Told other features quit) next reply spells (is, left) e = let same : other ≡ reply = cc in subst IsReply same spells

@@ -3,5 +3,5 @@ pub mod Feeding
 pub mod Giving
 pub mod Granting
 pub mod Missing
-pub mod Sent
+pub mod Lying
 pub mod Telling

@@ -6,9 +6,7 @@ use Rattle.std.proofs.Math.Seq.{take-add}
 use Rattle.kv_frame.specs.declared.frame.Frame.{Frame}
 use Rattle.kv_frame.specs.declared.frame.Side.TheVariants.{Requests}
 use Rattle.kv_frame.specs.declared.frame.TheConstants.{HEADER_LENGTH, BODY_LIMIT}
-use Rattle.kv_frame.specs.declared.decoding.Step.{Step}
-use Rattle.kv_frame.specs.declared.decoding.Step.TheVariants as steps
-use Rattle.kv_frame.specs.Judging.{stated_body, BeginsWith, Lacks, Decodes}
+use Rattle.kv_frame.specs.Judging.{stated_body, BeginsWith, Lacks}
 use Rattle.kv_frame.proofs.Unique.{begun, not_lacking, lacking_not_bad, frame_states, length-spelling}
 use Rattle.kv_frame.proofs.Growing.{same_body, lacks_fewer}
 use Rattle.std.proofs.lemmas.Bool.Decides.{nat_tests}
@@ -25,6 +23,11 @@ lacking_not_whole bytes n f used lacks begins =
 pub lacking_not_filled : (bytes : List ℕ) (n : ℕ) → Lacks Requests bytes n → Filled bytes → ⊥
 lacking_not_filled bytes n lacks (inl (f, used, begins)) = lacking_not_whole bytes n f used lacks begins
 lacking_not_filled bytes n lacks (inr (place, fault, bad)) = lacking_not_bad Requests bytes n place fault lacks bad
+
+-- some bytes are missing
+pub lacks_some : (bytes : List ℕ) (n : ℕ) → Lacks Requests bytes n → 0 < n
+lacks_some bytes n (inl few) = few.0
+lacks_some bytes n (inr (magic, good, some, sum)) = some
 
 -- ---- a step over a piece
 
@@ -76,10 +79,3 @@ whole_is_all held f used bounded begins =
     let stated : stated_body held ≡ body_length f = states.body in
     let limit : body_length f ≤ BODY_LIMIT = b.0.fits.body in
     grind (arith, nat_tests)
-
--- where a whole frame is decoded, what is held is that frame
-pub whole_held : (bytes held : List ℕ) (step : Step) (f : Frame) (used : ℕ) → bytes ≡ held → length held ≤ room_for held → Decodes Requests bytes step → step ≡ steps.Whole f used
-    → BeginsWith Requests held f (length held)
-whole_held bytes held step f used e bounded decodes is =
-    let begins : BeginsWith Requests held f used = subst (λ (l : List ℕ). BeginsWith Requests l f used) e (subst (Decodes Requests bytes) is decodes) in
-    subst (λ (n : ℕ). BeginsWith Requests held f n) (whole_is_all held f used bounded begins) begins

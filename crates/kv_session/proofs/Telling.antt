@@ -1,5 +1,5 @@
 -- The session's own replies have frames.
-use Rattle.std.proofs.Common.{◌≡◌, ℕ, suc, ◌+◌, ◌≤◌, Bool, true, false, nat_eq, List, [], ◌∷◌, length, filter, Option, Some, None, Result, Ok, Err, if◌then◌else◌, refl, ap, subst, ◌∙◌, arith}
+use Rattle.std.proofs.Common.{◌≡◌, ℕ, suc, ◌+◌, ◌≤◌, Bool, true, false, nat_eq, List, [], ◌∷◌, length, filter, Option, Some, None, Ok, Err, if◌then◌else◌, refl, ap, subst, ◌∙◌, arith}
 use Rattle.std.specs.List.{flat_map, list_any}
 use Rattle.std.specs.Option.{option_map_or}
 use Rattle.std.specs.Int.{w16, to_be_bytes}
@@ -7,7 +7,6 @@ use Rattle.std.proofs.lemmas.List.{length-append}
 use Rattle.kv_frame.specs.declared.frame.TheConstants.{BODY_LIMIT}
 use Rattle.kv_frame.specs.declared.frame.Frame.{Frame}
 use Rattle.kv_frame.specs.Grammar.{Fits}
-use Rattle.doc_model.specs.declared.status.Status.{Status}
 use Rattle.doc_model.specs.declared.status.TheConstants.Status as status
 use Rattle.kv_request.specs.declared.opcode.Command.{Command}
 use Rattle.kv_request.specs.declared.opcode.Command.TheVariants as commands

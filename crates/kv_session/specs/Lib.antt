@@ -1,6 +1,5 @@
 pub mod Answers
 pub mod Filling
 pub mod Session
-pub mod Sending
 pub mod Making
 pub mod Cutting

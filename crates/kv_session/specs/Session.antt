@@ -47,6 +47,10 @@ Gives old new (nexts.Bad place fault) = (old.quit ≡ false) × IsBad Requests o
 Gives old new nexts.Quit = (old.quit ≡ true) × (new ≡ old)
 Gives old new nexts.NoMemory = (old.quit ≡ false) × (new ≡ old)
 
+-- A piece was offered, of which n bytes were taken, and then this was given out.
+abbrev pub Advances : Line → List ℕ → Line → ℕ → Next → Type 0
+Advances old piece new n next = (between : Line) × Feeds old piece between n × Gives between new next
+
 -- a line as bytes and bits
 abbrev pub coded_line : Coded Line
 coded_line =

@@ -6,11 +6,12 @@ ghost use Rattle.std.specs.Int.{w16, to_be_bytes};
 ghost use Rattle.kv_session.specs.Answers.{is_granted, granted, features_of, telling, made_of, made_by};
 ghost use Rattle.kv_session.specs.Making.{Makes, Spells};
 ghost use Rattle.kv_frame.specs.Grammar.{Fits};
+ghost use Rattle.kv_frame.specs.Viewing.{frame_seen};
 
 use doc_model::{Refused, Status};
 use kv_edge::{Bytes, NoMemory};
-use kv_frame::Frame;
-use kv_request::{Body, Features, Reply, Request, read_request, refusal};
+use kv_frame::FrameView;
+use kv_request::{Body, Features, Reply, Request, read_view, refusal};
 use std::alloc::Global;
 
 /// Mutation tokens: replies to writes tell term and sequence number.
@@ -32,7 +33,7 @@ pub const FEATURE_DURABILITY: u16 = 0x0011;
 pub const FEATURE_COLLECTIONS: u16 = 0x0012;
 
 /// The version that is told.
-pub const VERSION_TEXT: &[u8; 5] = b"1.0.0";
+pub const VERSION_TEXT: &str = "1.0.0";
 
 /// What a session makes of a frame.
 #[derive(Debug, Drop)]
@@ -47,25 +48,30 @@ pub(crate) enum Made {
     },
 }
 
-/// What a session makes of a frame, under the features granted so far.
-pub(crate) fn make(alloc: Global, frame: &Frame, features: &Features) -> Result<Made, NoMemory>
-    requires { Fits frame.now }
-    ensures made { IfOk result (Makes (made_by features.now frame.now)) }
+/// What a session makes of the frame that a view is of, under the features granted so far: a request to pass on, or a
+/// reply of the session's own.
+pub(crate) fn read_frame(
+    alloc: Global,
+    view: &FrameView<'_>,
+    features: &Features,
+) -> Result<Made, NoMemory>
+    requires { Fits (frame_seen view.now) }
+    ensures made { IfOk result (Makes (made_by features.now (frame_seen view.now))) }
     ensures spells { IfOk result Spells }
 {
-    match read_request(alloc, frame, features) {
-        Ok(request) => make_of(alloc, request, *features),
+    match read_view(alloc, view, features) {
+        Ok(request) => pass_or_tell(alloc, request, *features),
         Err(Refused::NoMemory) => Err(NoMemory),
         Err(Refused::Status(status)) => Ok(Made::Told {
-            reply: refusal(alloc, frame.opcode, frame.opaque, status),
+            reply: refusal(alloc, view.opcode, view.opaque, status),
             features: *features,
             quit: false,
         }),
     }
 }
 
-/// What a session makes of a request.
-fn make_of(alloc: Global, request: Request, features: Features) -> Result<Made, NoMemory>
+/// What a session makes of a request: one that asks nothing of a vbucket is answered, any other is passed on.
+fn pass_or_tell(alloc: Global, request: Request, features: Features) -> Result<Made, NoMemory>
     ensures { IfOk result (Makes (made_of features request request.body)) }
 {
     match &request.body {
@@ -84,7 +90,11 @@ fn make_of(alloc: Global, request: Request, features: Features) -> Result<Made, 
             quit: false,
         }),
         Body::Version => Ok(Made::Told {
-            reply: tell(alloc, &request, Bytes::from_slice(alloc, VERSION_TEXT)?),
+            reply: tell(
+                alloc,
+                &request,
+                Bytes::from_slice(alloc, VERSION_TEXT.as_bytes())?,
+            ),
             features,
             quit: false,
         }),

@@ -9,6 +9,7 @@ use crate::answers::{
     FEATURE_COLLECTIONS, FEATURE_DURABILITY, FEATURE_FLEX, FEATURE_TOKEN, FEATURE_XATTR,
     FEATURE_XERROR, VERSION_TEXT,
 };
+use crate::filling::KEPT_LIMIT;
 
 /// However the bytes of a connection are cut into pieces, and whenever the session is asked, what it gave out and where
 /// it stands are what the frames of the bytes taken, read as one list, say.
@@ -30,7 +31,7 @@ pub fn two_cuttings()
         bytes_taken events ≡ bytes_taken others → (given events ≡ given others) × (line ≡ end) }
 {}
 
-/// The features and the version are these.
+/// The features, the version and the memory that is kept are these.
 pub fn session_numbers()
     ensures token { FEATURE_TOKEN ≡ 4 }
     ensures xattr { FEATURE_XATTR ≡ 6 }
@@ -38,5 +39,6 @@ pub fn session_numbers()
     ensures flex { FEATURE_FLEX ≡ 16 }
     ensures durability { FEATURE_DURABILITY ≡ 17 }
     ensures collections { FEATURE_COLLECTIONS ≡ 18 }
+    ensures kept { KEPT_LIMIT ≡ 65536 }
     ensures version { VERSION_TEXT.now ≡ codes "1.0.0" }
 {}

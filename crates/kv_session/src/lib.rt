@@ -1,7 +1,8 @@
 //! A session: the bytes of a connection, in whatever pieces they come, as requests and refusals.
 //!
 //! A session holds the bytes of at most one frame that isn't given out yet: 24 bytes, and then the body that they
-//! announce, whose memory is taken when the 24 bytes are known. It answers by itself what asks nothing of a vbucket:
+//! announce, whose memory is taken when the 24 bytes are known. The memory is kept for the next frame where it is at most
+//! 64 KiB. A frame that comes whole in one piece is read where it lies. A session answers by itself what asks nothing of a vbucket:
 //! Hello, which grants features from then on, Noop, Version, Quit and QuitQ; and frames that are no request.
 //!
 //! Hello's value is a list of features of two bytes each. Those of 0004 (tokens), 0006, 0007, 0010, 0011 and 0012
@@ -11,13 +12,15 @@
 
 mod answers;
 mod filling;
+mod finding;
 mod laws;
 mod session;
 
 pub use answers::{
     FEATURE_COLLECTIONS, FEATURE_DURABILITY, FEATURE_FLEX, FEATURE_TOKEN, FEATURE_XATTR,
-    FEATURE_XERROR,
+    FEATURE_XERROR, VERSION_TEXT,
 };
+pub use filling::KEPT_LIMIT;
 pub use laws::{any_cutting, one_reading, session_numbers, two_cuttings};
 pub use session::{Next, Session};
 

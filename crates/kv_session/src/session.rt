@@ -1,16 +1,16 @@
-ghost use Rattle.std.specs.Prelude.{◌≡◌, ◌⊎◌, ◌↔◌, false, [], ◌++◌, ◌≤◌, ◌+◌, length, IfOk, OnOk, OnErr};
-ghost use Rattle.kv_frame.specs.declared.frame.Side.TheVariants.{Requests};
-ghost use Rattle.kv_frame.specs.Judging.{BeginsWith};
+ghost use Rattle.std.specs.Prelude.{◌≡◌, ◌⊎◌, ◌↔◌, ℕ, false, [], ◌++◌, ◌≤◌, length, IfOk, OnOk, OnErr};
 ghost use Rattle.kv_request.specs.Tables.{IsReply, IsRequest, is_for_session};
 ghost use Rattle.kv_session.specs.Filling.{room_for};
-ghost use Rattle.kv_session.specs.Session.{new_line, IsFull, Feeds, Gives};
-ghost use Rattle.kv_session.specs.Sending.{sent_bytes};
+ghost use Rattle.kv_session.specs.Session.{new_line, IsFull, Feeds, Gives, Advances};
+ghost use Rattle.kv_session.specs.Making.{HandsOut};
+ghost use Rattle.kv_request.specs.Sending.{sent_bytes, IsSendable};
 
-use crate::answers::{Made, make};
-use crate::filling::fill;
+use crate::answers::Made;
+use crate::filling::{KEPT_LIMIT, fill, release};
+use crate::finding::{Found, find_frame};
 use kv_edge::NoMemory;
-use kv_frame::{Fault, Frame, Side, Step, decode, encode_into};
-use kv_request::{Features, Reply, Request, write_reply};
+use kv_frame::Fault;
+use kv_request::{Features, Reply, Request, reply_into};
 use std::alloc::Global;
 use std::marker::Model;
 
@@ -41,8 +41,7 @@ pub struct Session {
 }
 
 impl Model for Session {
-    ghost use Rattle.std.specs.Prelude.{◌≤◌, length};
-    ghost use Rattle.kv_session.specs.Filling.{room_for};
+    ghost use Rattle.kv_session.specs.Filling.{IsHeld};
     ghost use Rattle.kv_session.specs.Session.{Line, coded_line};
 
     ghost Value = { Line };
@@ -51,7 +50,7 @@ impl Model for Session {
 
     ghost view = { λ s. record { held = s.held.items; features = s.features; quit = s.quit } };
 
-    ghost invariant = { λ s. length s.held.items ≤ room_for s.held.items };
+    ghost invariant = { λ s. IsHeld s.held };
 }
 
 impl Session {
@@ -94,25 +93,46 @@ impl Session {
         if self.quit {
             return Next::Quit;
         }
-        match decode(self.alloc, Side::Requests, &self.held) {
+        match find_frame(self.alloc, &self.features, &self.held) {
             // What is held is this frame and no more.
-            Ok(Step::Whole(frame, _used)) => self.give(frame),
-            Ok(Step::More(missing)) => Next::More(missing),
-            Ok(Step::Bad(place, fault)) => Next::Bad(place, fault),
+            Ok(Found::Frame(made, _used)) => self.hand_out(made),
+            Ok(Found::More(missing)) => Next::More(missing),
+            Ok(Found::Bad(place, fault)) => Next::Bad(place, fault),
             Err(_refused) => Next::NoMemory,
         }
     }
 
+    /// Takes bytes from the front of a piece as `feed` does, and gives out what comes next as `next_request` does;
+    /// answers how many bytes were taken, and what is given out. Where nothing is held, a frame that is whole in the
+    /// piece is read where it lies, and no byte of it is copied here.
+    ///
+    /// At `Err` nothing changed. At `More` all of the piece was taken.
+    pub fn advance(&mut self, piece: &[u8]) -> Result<(usize, Next), NoMemory>
+        ensures advances { IfOk result (λ x. Advances self.old piece.now self.new x.0 x.1) }
+        ensures request { (n : ℕ) (made : _) → result ≡ Ok (n, Next.Request made) → IsRequest made }
+        ensures passed { (n : ℕ) (made : _) → result ≡ Ok (n, Next.Request made) → is_for_session made.body ≡ false }
+        ensures reply { (n : ℕ) (reply : _) → result ≡ Ok (n, Next.Refused reply) → IsReply reply }
+        ensures all { (n missing : ℕ) → result ≡ Ok (n, Next.More missing) → n ≡ length piece.now }
+        ensures err { OnErr result (self.new ≡ self.old) }
+    {
+        if self.held.is_empty() && !self.quit {
+            if let Found::Frame(made, used) = find_frame(self.alloc, &self.features, piece)? {
+                let next = self.hand_out(made);
+                return Ok((used, next));
+            }
+        }
+        let taken = self.feed(piece)?;
+        let next = self.next_request();
+        Ok((taken, next))
+    }
+
     /// Appends the bytes of a reply, or nothing where its opcode leaves its status unsent. At `Err` nothing is appended.
     pub fn answer(&self, reply: &Reply, out: &mut Vec<u8>) -> Result<(), NoMemory>
-        requires { IsReply reply.now }
+        requires { IsSendable self.now.features reply.now }
         ensures ok { OnOk result (out.new.items ≡ out.old.items ++ sent_bytes self.now.features reply.now) }
         ensures err { OnErr result (out.new.items ≡ out.old.items) }
     {
-        match write_reply(self.alloc, reply, &self.features)? {
-            Some(frame) => encode_into(&frame, out),
-            None => Ok(()),
-        }
+        reply_into(reply, &self.features, out)
     }
 
     /// How many bytes are held: at most 24 and, once these are there, the body that they announce.
@@ -123,20 +143,18 @@ impl Session {
         self.held.len()
     }
 
-    /// Gives out the frame that is held: as a request, or with the session's own reply to it.
-    fn give(&mut self, frame: Frame) -> Next
-        requires open { self.old.quit ≡ false }
-        requires begins { BeginsWith Requests self.old.held frame (length self.old.held) }
-        ensures gives { Gives self.old self.new result }
-        ensures request { (made : _) → result ≡ Next.Request made → IsRequest made }
-        ensures passed { (made : _) → result ≡ Next.Request made → is_for_session made.body ≡ false }
-        ensures reply { (reply : _) → result ≡ Next.Refused reply → IsReply reply }
+    /// How many bytes the memory has that is kept for what is held.
+    pub fn reserved(&self) -> usize
+        ensures { self.now.held ≡ [] → result ≤ KEPT_LIMIT }
     {
-        let made = match make(self.alloc, &frame, &self.features) {
-            Ok(made) => made,
-            Err(_refused) => return Next::NoMemory,
-        };
-        self.held = Vec::new(self.alloc);
+        self.held.capacity()
+    }
+
+    /// Gives out what was made of a frame, and forgets what is held.
+    fn hand_out(&mut self, made: Made) -> Next
+        ensures { HandsOut self.old made self.new result }
+    {
+        release(&mut self.held);
         match made {
             Made::Passed(request) => Next::Request(request),
             Made::Told {

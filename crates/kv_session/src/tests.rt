@@ -1,7 +1,9 @@
+ghost use Rattle.std.specs.Prelude.{IfOk};
 ghost use Rattle.kv_request.specs.Tables.{IsReply};
 
 use crate::{Next, Session};
 use doc_model::{DocKey, Status};
+use hex_rows::bytes_of;
 use kv_edge::{Bytes, NoMemory};
 use kv_frame::Fault;
 use kv_request::{Body, Reply, Request, refusal, small_replies};
@@ -55,27 +57,6 @@ const SET_DONE_WITH_TOKEN: &str = "\
     81 01 0000 10 00 0000 00000010 00000001 0000000000000001 \
     0000000000000004 0000000000000001";
 
-// The bytes of hexadecimal digits. Blanks between them are for reading.
-fn bytes_of(alloc: Global, text: &str) -> Result<Vec<u8>, NoMemory> {
-    let mut bytes = Vec::new(alloc);
-    let mut high = None;
-    for digit in text.bytes() {
-        let digit = match digit {
-            b'0'..=b'9' => digit - b'0',
-            b'a'..=b'f' => digit - b'a' + 10,
-            _ => continue,
-        };
-        match high {
-            None => high = Some(digit << 4),
-            Some(above) => {
-                bytes.push(above | digit)?;
-                high = None;
-            }
-        }
-    }
-    Ok(bytes)
-}
-
 // The request of GET.
 fn get_of_a(alloc: Global) -> Result<Request, NoMemory> {
     let key = Bytes::from_slice(alloc, b"a")?;
@@ -108,6 +89,27 @@ fn set_done(alloc: Global) -> Reply
         key: None,
         value: Bytes::new(alloc),
     }
+}
+
+// What a GetK of `a` in collection 8 is answered, whose document has the flags 42 and the value `hi`.
+fn get_done(alloc: Global) -> Result<Reply, NoMemory>
+    ensures { IfOk result IsReply }
+{
+    small_replies();
+    let key = Bytes::from_slice(alloc, b"a")?;
+    let value = Bytes::from_slice(alloc, b"hi")?;
+    Ok(Reply {
+        opcode: 0x0c,
+        opaque: 1,
+        status: Status::SUCCESS,
+        cas: 5,
+        json: false,
+        flags: Some(42),
+        token: None,
+        extras: Bytes::new(alloc),
+        key: Some(DocKey { collection: 8, key }),
+        value,
+    })
 }
 
 fn request_of(next: Next) -> Option<Request> {
@@ -147,9 +149,9 @@ fn is_quit(next: Next) -> bool {
 }
 
 // Feeds the bytes of hexadecimal digits and answers how many were taken.
-fn feed(alloc: Global, session: &mut Session, text: &str) -> Result<usize, NoMemory> {
+fn feed(alloc: Global, session: &mut Session, text: &str) -> Result<usize, Fail> {
     let piece = bytes_of(alloc, text)?;
-    session.feed(&piece)
+    Ok(session.feed(&piece)?)
 }
 
 // What is sent of the session's own reply, which is to be the next that it gives out.
@@ -160,6 +162,68 @@ fn own_answer(alloc: Global, session: &mut Session) -> Result<Vec<u8>, Fail> {
         _ => Err("it is no reply of the session's own")?,
     }
     Ok(out)
+}
+
+#[test]
+fn a_frame_that_lies_in_a_piece_is_read_there(rt: HostRuntime) -> Result<(), Fail> {
+    let alloc = rt.alloc();
+    let mut session = Session::new(alloc);
+    let mut piece = bytes_of(alloc, GET)?;
+    let behind = bytes_of(alloc, NOOP)?;
+    piece.extend_from_slice(&behind)?;
+    let (taken, next) = session.advance(&piece)?;
+    assert_eq!(rt; taken, 25);
+    assert_eq!(rt; request_of(next).ok_or("no request")?, get_of_a(alloc)?);
+    assert_eq!(rt; (session.rest(), session.reserved()), (0, 0));
+    Ok(())
+}
+
+#[test]
+fn pieces_are_taken_and_a_request_given_out_in_one_call(rt: HostRuntime) -> Result<(), Fail> {
+    let alloc = rt.alloc();
+    let whole = bytes_of(alloc, GET)?;
+    for size in [1, 10, 24, 25] {
+        let mut session = Session::new(alloc);
+        for piece in whole.chunks(size) {
+            let (taken, next) = session.advance(piece)?;
+            assert_eq!(rt; taken, piece.len());
+            match next {
+                Next::More(missing) => assert!(rt; missing > 0 && session.rest() > 0),
+                next => assert_eq!(rt; request_of(next).ok_or("no request")?, get_of_a(alloc)?),
+            }
+        }
+        assert_eq!(rt; session.rest(), 0);
+    }
+    Ok(())
+}
+
+#[test]
+fn memory_for_a_long_frame_is_given_back(rt: HostRuntime) -> Result<(), Fail> {
+    let alloc = rt.alloc();
+    let mut session = Session::new(alloc);
+    // Sets of 1 and of 70,000 bytes, without their values.
+    for (head, count, kept) in [
+        (
+            "80 01 0001 08 00 0000 0000000a 00000001 0000000000000000 0000000000000000 61",
+            1,
+            true,
+        ),
+        (
+            "80 01 0001 08 00 0000 00011179 00000001 0000000000000000 0000000000000000 61",
+            70_000,
+            false,
+        ),
+    ] {
+        let front = bytes_of(alloc, head)?;
+        let (_, next) = session.advance(&front)?;
+        assert_eq!(rt; missing_of(next), Some(count));
+        assert!(rt; session.reserved() > count);
+        let value = vec![in alloc; b'v'; count]?;
+        let (_, next) = session.advance(&value)?;
+        assert!(rt; request_of(next).is_some());
+        assert_eq!(rt; session.reserved() > 0, kept);
+    }
+    Ok(())
 }
 
 #[test]
@@ -285,6 +349,30 @@ fn hello_decides_whether_tokens_are_sent(rt: HostRuntime) -> Result<(), Fail> {
         assert_eq!(rt; own_answer(alloc, &mut session)?, bytes_of(alloc, wanted)?);
         let mut out = Vec::new(alloc);
         session.answer(&set, &mut out)?;
+        assert_eq!(rt; out, bytes_of(alloc, sent)?);
+    }
+    Ok(())
+}
+
+#[test]
+fn a_reply_has_flags_key_and_value_one_behind_the_other(rt: HostRuntime) -> Result<(), Fail> {
+    let alloc = rt.alloc();
+    let mut session = Session::new(alloc);
+    let reply = get_done(alloc)?;
+    for (hello, sent) in [
+        (
+            HELLO_FOR_NOTHING,
+            "81 0c 0001 04 00 0000 00000007 00000001 0000000000000005 0000002a 61 6869",
+        ),
+        (
+            HELLO,
+            "81 0c 0002 04 00 0000 00000008 00000001 0000000000000005 0000002a 0861 6869",
+        ),
+    ] {
+        feed(alloc, &mut session, hello)?;
+        own_answer(alloc, &mut session)?;
+        let mut out = Vec::new(alloc);
+        session.answer(&reply, &mut out)?;
         assert_eq!(rt; out, bytes_of(alloc, sent)?);
     }
     Ok(())

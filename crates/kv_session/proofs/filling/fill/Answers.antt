@@ -1,9 +1,9 @@
 use Rattle.std.proofs.Common.{◌≡◌, ℕ, List, ◌++◌, ◌+◌, ◌≤◌, length, take, drop, arith, sym, subst, ap, ◌∙◌}
-use Rattle.std.proofs.lemmas.List.{length-take, length-drop}
+use Rattle.std.proofs.lemmas.List.{length-append, length-take, length-drop}
 use Rattle.kv_frame.specs.declared.frame.Side.TheVariants.{Requests}
 use Rattle.kv_frame.specs.Judging.{Lacks}
 use Rattle.kv_session.specs.Filling.{room_for}
-use Rattle.kv_session.proofs.Missing.{none_filled, held_further, lacks_room}
+use Rattle.kv_session.proofs.Missing.{lacks_some, none_filled, held_further, lacks_room}
 use Rattle.kv_session.proofs.filling.fill.Goals as goal
 
 pub loop-taken-preserved : goal.loop-taken-preserved
@@ -26,6 +26,12 @@ loop-taken-preserved c =
       within = within;
       held = held_further old piece held c.fill_up.new.held.items taken count i.held new;
       no_more = none_filled old piece held taken missing count i.held lacks (omega (arith, done.0)) within i.no_more;
-      bounded = subst (λ (l : List ℕ). length l ≤ room_for l) (sym new) (lacks_room held (take count (drop taken piece)) missing lacks (omega (arith, done.0, length-take count (drop taken piece))));
+      held_so = record {
+        bounded = subst (λ (l : List ℕ). length l ≤ room_for l) (sym new) (lacks_room held (take count (drop taken piece)) missing lacks (omega (arith, done.0, length-take count (drop taken piece))));
+        kept = λ empty.
+            let none : length c.fill_up.new.held.items ≡ 0 = ap (λ (l : List ℕ). length l) empty in
+            let sum : length c.fill_up.new.held.items ≡ length (held ++ take count (drop taken piece)) = ap (λ (l : List ℕ). length l) new in
+            absurd (omega (arith, none, sum, length-append held (take count (drop taken piece)), length-take count (drop taken piece), done.0, size, rest, lacks_some held missing lacks, c.loop-taken-test.true));
+      };
       before = i.before;
     }

@@ -1,5 +1,5 @@
-use Rattle.std.proofs.Common.{◌≡◌, ℕ, ◌<◌, ◌≤◌, ◌+◌, ◌-◌, ◌++◌, length, take}
-use Rattle.kv_session.specs.Filling.{Filled, room_for}
+use Rattle.std.proofs.Common.{◌≡◌, ℕ, ◌<◌, ◌≤◌, ◌-◌, ◌++◌, length, take}
+use Rattle.kv_session.specs.Filling.{Filled, IsHeld}
 use Rattle.kv_session.proofs.filling.fill.Given as goal
 
 -- the bytes so far were taken, and none after the last that was missing
@@ -9,7 +9,7 @@ invariant-loop-taken l =
       within : l.taken ≤ length l.piece;
       held : l.held.items ≡ l.fn.held.items ++ take l.taken l.piece;
       no_more : (k : ℕ) → k < l.taken → Filled (l.fn.held.items ++ take k l.piece) → ⊥;
-      bounded : length l.held.items ≤ room_for l.held.items;
+      held_so : IsHeld l.held;
       before : l.before ≡ length l.fn.held.items;
     }
 

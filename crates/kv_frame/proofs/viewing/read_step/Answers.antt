@@ -1,9 +1,9 @@
 use Rattle.std.proofs.Common.{ℕ, ◌-◌, ◌<◌, ◌≤◌, List, length, take, drop, sym, ap, subst, ◌∙◌, arith}
 use Rattle.std.proofs.lemmas.List.{length-take}
 use Rattle.kv_frame.specs.Judging.{Lacks, GoesWrongAt}
-use Rattle.kv_frame.specs.Reading.{ReadsBody}
+use Rattle.kv_frame.specs.Viewing.{ReadsBody}
 use Rattle.kv_frame.proofs.FrameLaws.{header_whole, body_missing, wrong_within, body_wrong, section_within, frame_whole}
-use Rattle.kv_frame.proofs.decoding.read_step.Goals as goal
+use Rattle.kv_frame.proofs.viewing.read_step.Goals as goal
 
 pub split_at-requires : goal.split_at-requires
 split_at-requires c =

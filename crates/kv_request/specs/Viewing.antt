@@ -1,0 +1,33 @@
+-- What reading a frame where it lies relies on.
+use Rattle.std.specs.Prelude.{◌≡◌, true, List, ℕ, Option, Some, None, Result, Ok, Err, is_some}
+use Rattle.kv_frame.specs.declared.frame.Frame.{Frame}
+use Rattle.doc_model.specs.declared.key.DocKey.{DocKey}
+use Rattle.doc_model.specs.declared.status.Status.{Status}
+use Rattle.kv_request.specs.declared.opcode.Command.{Command}
+use Rattle.kv_request.specs.declared.request.Features.{Features}
+use Rattle.kv_request.specs.declared.reading.KeyView.{KeyView}
+use Rattle.kv_request.specs.Opcodes.{names_document}
+use Rattle.kv_request.specs.Tables.{has_form, key_from, is_key, checks, first_failing}
+
+-- the key that is seen
+abbrev pub key_seen : KeyView → DocKey
+key_seen k = record { collection = k.collection; key = k.name.now }
+
+-- where the bytes are a document's key, it is the one that they spell
+abbrev pub IsKeyOf : Features → Command → List ℕ → KeyView → Type 0
+IsKeyOf features command bytes k =
+    names_document command ≡ true → key_from features.collections bytes ≡ Some (key_seen k)
+
+-- What is found of a key: the key, where the command names one, or that the bytes are none.
+abbrev pub FindsKey : Features → Command → List ℕ → Option KeyView → Type 0
+FindsKey features command bytes found =
+    (is_some found ≡ is_key features command bytes)
+    × ((k : KeyView) → found ≡ Some k → IsKeyOf features command bytes k)
+
+-- What the checks tell of a frame: that it passes them all, and its key, or the status of the first that it fails.
+abbrev pub Checks : Features → Frame → Command → Result KeyView Status → Type 0
+Checks features frame command (Ok k) =
+    (first_failing (checks features frame command) ≡ None)
+    × (has_form frame command ≡ true)
+    × IsKeyOf features command frame.key k
+Checks features frame command (Err status) = first_failing (checks features frame command) ≡ Some status
