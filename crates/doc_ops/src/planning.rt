@@ -45,7 +45,7 @@ pub fn plan(
         return Err(Refused::Status(status));
     }
     let setting = Setting { max_ttl, now, draw };
-    operate(alloc, setting, request, doc)
+    plan_operation(alloc, setting, request, doc)
 }
 
 /// Why a request with this CAS is refused, where it is.
@@ -63,7 +63,7 @@ fn cas_refusal(cas: u64, doc: Option<&Doc>) -> Option<Status>
 }
 
 /// What the operation does where the CAS allows it.
-fn operate(
+fn plan_operation(
     alloc: Global,
     setting: Setting,
     request: &Request,

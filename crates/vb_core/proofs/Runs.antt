@@ -26,7 +26,7 @@ use Rattle.doc_step.specs.Step.{cas_refusal, carrying, stored_doc, get_step, del
 use Rattle.vb_core.specs.declared.vb.TheConstants.{VBUCKET}
 use Rattle.vb_core.specs.Log.{Entry, Content, with_entries, doc_of}
 use Rattle.vb_core.specs.Step.{Copy, drawn, entries_of, concluded, has_collection, early_refusal, setting_at, document_request, served, body_step, request_step, seen_with, moment_of, after, answered}
-use Rattle.vb_core.specs.Runs.{Event, after_all, IsUnconditional, IsGet, IsSet, IsDelete, IsKnown, Outlasts, LeavesBody, Leaves, Carries}
+use Rattle.vb_core.specs.Runs.{Event, after_all, IsUnconditional, IsGet, IsSet, IsDelete, IsKnown, Outlasts, LeavesBody, Leaves, Carries, HasExpired}
 use Rattle.vb_core.proofs.Keys.{get_same, get_other}
 use Rattle.vb_core.proofs.Taken.{set_keeps, set_drops, set_knows, set_spares}
 
@@ -346,3 +346,22 @@ deleted_misses copy delete get between key d l g known done =
     let gone : Lacks first.content key (moment_of get.now) = delete_removes copy delete key get.now d known done in
     let still : IsKnown (after_all first between) key = run_knows first between key l (named_knows copy delete.request delete.now key key (ap key_named d.body) known) in
     get_misses (after_all first between) get.request get.now key g still (ap (λ w. there (moment_of get.now) (doc_of w)) (run_keeps first between key l) ∙ gone)
+
+-- ---- a Delete leaves what expired
+
+-- a Delete of what expired comes to nothing
+expired_step : (copy : Copy) (delete : Event) (key : DocKey) → IsDelete delete.request key → IsKnown copy key → HasExpired copy key delete.now
+    → request_step copy.content (seen_with copy.seen delete.now) (moment_of delete.now) delete.request ≡ deletion copy.content (setting_at copy.content (seen_with copy.seen delete.now) (moment_of delete.now) key.collection) delete.request None
+expired_step copy delete key d known h =
+    let content = copy.content in
+    let seen = seen_with copy.seen delete.now in
+    let moment = moment_of delete.now in
+    serves content seen moment delete.request (bodies.Delete key) d.unconditional d.body refl known
+    ∙ ap (deletion content (setting_at content seen moment key.collection) delete.request)
+    (ap (λ w. there moment (doc_of w)) h.there ∙ ap (λ b. if b then None else Some h.doc) h.passed)
+
+pub expired_answer : (copy : Copy) (delete : Event) (key : DocKey) → IsDelete delete.request key → IsKnown copy key → HasExpired copy key delete.now → (answered copy delete.request delete.now).status ≡ status.KEY_ENOENT
+expired_answer copy delete key d known h = ap (λ (r : List Entry × Reply). r.1.status) (expired_step copy delete key d known h)
+
+pub expired_stays : (copy : Copy) (delete : Event) (key : DocKey) → IsDelete delete.request key → IsKnown copy key → HasExpired copy key delete.now → (after copy delete.request delete.now).content ≡ copy.content
+expired_stays copy delete key d known h = ap (λ (r : List Entry × Reply). with_entries copy.content r.0) (expired_step copy delete key d known h)

@@ -83,6 +83,14 @@ pub without_small : (documents : map.FinMap key_cmp What) (dropped : List ℕ) �
 without_small documents dropped all key doc e =
     all key doc (still_there (not (list_any (nat_eq key.collection) dropped)) (map.get documents key) (whats.Put doc) (sym (get_kept documents (λ k. not (list_any (nat_eq k.collection) dropped)) key) ∙ e))
 
+-- and those that are left where a manifest is set
+pub left_small : (before left : map.FinMap key_cmp What) (dropped : List ℕ) (changed : Bool) → left ≡ (if changed then without before dropped else before) → AreSmall before → AreSmall left
+left_small before left dropped changed is all = let P : map.FinMap key_cmp What → Type 0 = λ d. AreSmall d in subst P (sym is) (by changed)
+  where
+    by : (b : Bool) → AreSmall (if b then without before dropped else before)
+    by true = without_small before dropped all
+    by false = all
+
 -- small documents with a small effect are small
 with_small : (documents : map.FinMap key_cmp What) (key : DocKey) (effect : Effect) (cas position : ℕ) → AreSmall documents → IsSmallEffect effect → AreSmall (documents_with documents key effect cas position)
 with_small documents key effects.Nothing cas position all h = all

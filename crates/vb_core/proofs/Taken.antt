@@ -23,7 +23,7 @@ use Rattle.manifest_rules.specs.Rules.{Step, manifest_step, same_scope, obeys, l
 use Rattle.vb_core.specs.Log.{Entry, Manifest, Content, with_entries, with_step, without}
 use Rattle.vb_core.specs.Step.{has_collection, manifest_answer, set_manifest}
 use Rattle.vb_core.specs.Runs.{KeepsCollection}
-use Rattle.vb_core.proofs.Manifests.{content_of_step, entry_is, text_is}
+use Rattle.vb_core.proofs.Manifests.{content_of_step, entry_is}
 
 -- ---- ids of collections
 
@@ -85,7 +85,7 @@ takes content text new step read is e =
     let all : stepped content text step ≡ content_of_step content (taking content.manifest new) =
     ap (stepped content text) (sym e)
     ∙ entry_is content text
-    ∙ ap (with_step content) (text_is content.manifest text new read ∙ is ∙ ap (λ (s : Step). Ok s) (sym e)) in
+    ∙ ap (with_step content) (ap (λ o. option_map_or {U = Result Step Status} (λ m. manifest_step content.manifest m) o (Err status.EINVAL)) read ∙ is ∙ ap (λ (s : Step). Ok s) (sym e)) in
     record {
       new = new;
       read = read;

@@ -1,6 +1,9 @@
 -- Whole runs of requests, for laws in the words of those who use documents.
 use Rattle.std.specs.Prelude.{◌≡◌, ◌≢◌, ℕ, is_some, true, false, List, [], ◌∷◌, None, Some}
+use Rattle.std.specs.FinMap as map
 use Rattle.doc_model.specs.declared.key.DocKey.{DocKey}
+use Rattle.doc_model.specs.declared.document.Doc.{Doc}
+use Rattle.doc_model.specs.declared.document.What.TheVariants as whats
 use Rattle.doc_model.specs.declared.status.TheConstants.Status as status
 use Rattle.kv_request.specs.declared.request.Request.{Request}
 use Rattle.kv_request.specs.declared.request.Body.{Body}
@@ -81,3 +84,9 @@ pub record Carries (reply : Reply) (flags : ℕ) (value : List ℕ) : Type 0 whe
   pub success : reply.status ≡ status.SUCCESS
   pub flags_told : reply.flags ≡ Some flags
   pub value_told : reply.value ≡ value
+
+-- the key has a document whose expiry has passed at this moment
+pub record HasExpired (copy : Copy) (key : DocKey) (now : ℕ) : Type 0 where
+  pub doc : Doc
+  pub there : map.get copy.content.documents key ≡ Some (whats.Put doc)
+  pub passed : is_expired doc.expiry (moment_of now) ≡ true

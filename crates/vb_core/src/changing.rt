@@ -107,7 +107,7 @@ pub(crate) struct Made {
 }
 
 /// Makes a change of the key's document at this position. At `Err` the documents are as before.
-pub(crate) fn make(
+pub(crate) fn apply_change(
     alloc: Global,
     documents: &mut KeyMap<What>,
     body: &Body,

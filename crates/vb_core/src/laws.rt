@@ -9,6 +9,7 @@ ghost use Rattle.kv_request.specs.declared.request.Body.TheVariants as bodies;
 ghost use Rattle.kv_request.specs.Tables.{key_named, document_key};
 ghost use Rattle.vb_core.specs.Step.{Copy, has_collection, after, answered};
 ghost use Rattle.vb_core.specs.Runs.{Event, after_all, IsGet, IsSet, IsDelete, IsKnown, Outlasts, Leaves, Carries};
+ghost use Rattle.vb_core.specs.Runs.{HasExpired};
 
 use crate::vb::{LAST_MOMENT, TERM, VBUCKET};
 use doc_model::Status;
@@ -31,6 +32,17 @@ pub fn get_misses_what_was_deleted()
         IsDelete delete.request key → AllByRecursion (Leaves key) between → IsGet get.request key → IsKnown copy key →
         ((answered copy delete.request delete.now).status ≡ Status.SUCCESS) ⊎ (delete.now ≤ get.now) →
         (answered (after_all (after copy delete.request delete.now) between) get.request get.now).status ≡ Status.KEY_ENOENT }
+{}
+
+/// A document whose expiry has passed is kept until it is stored over or deleted while it is there: a Delete that comes
+/// at such a moment finds no document, and changes nothing.
+pub fn expired_documents_are_kept()
+    ensures answer { (copy : Copy) (delete : Event) (key : DocKey) → IsDelete delete.request key → IsKnown copy key →
+        HasExpired copy key delete.now →
+        (answered copy delete.request delete.now).status ≡ Status.KEY_ENOENT }
+    ensures stays { (copy : Copy) (delete : Event) (key : DocKey) → IsDelete delete.request key → IsKnown copy key →
+        HasExpired copy key delete.now →
+        (after copy delete.request delete.now).content ≡ copy.content }
 {}
 
 /// A request on one document changes no other.

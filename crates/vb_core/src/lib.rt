@@ -20,8 +20,8 @@ mod managing;
 mod vb;
 
 pub use laws::{
-    dropped_collections_are_empty, get_answers_what_was_stored, get_misses_what_was_deleted,
-    kept_collections_stay, other_keys_stay, vbucket_numbers,
+    dropped_collections_are_empty, expired_documents_are_kept, get_answers_what_was_stored,
+    get_misses_what_was_deleted, kept_collections_stay, other_keys_stay, vbucket_numbers,
 };
 pub use vb::{LAST_MOMENT, TERM, VBUCKET, Vb};
 

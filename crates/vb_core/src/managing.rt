@@ -1,48 +1,45 @@
-//! What a manifest that takes the place of another is to change, and the replies to requests on manifests.
+//! How a manifest takes the place of another, and the replies to requests on manifests.
 
-ghost use Rattle.std.specs.Prelude.{◌≡◌, ◌≤◌, length, IfOk, IfErr};
+ghost use Rattle.std.specs.Prelude.{◌≡◌, ◌≤◌, length, IfOk, IfErr, OnErr, IsTrue};
 ghost use Rattle.kv_request.specs.declared.reading.TheConstants.{VALUE_LIMIT};
 ghost use Rattle.kv_request.specs.Tables.{IsReply};
+ghost use Rattle.manifest_rules.specs.Applying.{text_step};
 ghost use Rattle.manifest_rules.specs.Rules.{IsRefusedStep};
+ghost use Rattle.manifest_rules.specs.State.{is_kept};
 ghost use Rattle.vb_core.specs.Step.{success};
-ghost use Rattle.vb_core.specs.Changing.{text_step, IsPrepared};
+ghost use Rattle.vb_core.specs.Changing.{IsReplaced};
 
-use doc_model::{DocKey, KeyMap, Refused, Status, What};
-use kv_edge::{Bytes, Copied, Seq};
+use doc_model::{KeyMap, Refused, Status, What};
+use kv_edge::Bytes;
 use kv_request::{Reply, Request, refusal};
-use manifest_rules::{Dropped, Manifest, apply, read_manifest};
+use manifest_rules::{Dropped, Manifest, apply_text};
 use std::alloc::Global;
 
-/// A manifest that is ready to take the place of the one that is there.
-#[derive(Drop)]
-pub(crate) struct Prepared {
-    pub(crate) manifest: Manifest,
-    pub(crate) dropped: Dropped,
-    /// The keys that have something in the collections that are dropped.
-    pub(crate) keys: Seq<DocKey>,
-}
-
-/// Takes all memory that is needed to let the manifest that bytes are take the place of another, and changes nothing.
-/// The status is the one that refuses it.
-pub(crate) fn prepare(
+/// Lets the manifest that bytes are take the place of another, takes away the documents of the collections that it drops,
+/// and tells whether anything changed. The status is the one that refuses it. At `Err` both are as before: all memory is
+/// taken before anything changes.
+pub(crate) fn replace_manifest(
     alloc: Global,
-    old: &Manifest,
-    documents: &KeyMap<What>,
+    manifest: &mut Manifest,
+    documents: &mut KeyMap<What>,
     text: &[u8],
-) -> Result<Prepared, Refused>
-    ensures prepared { IfOk result (IsPrepared old.now documents.now text.now) }
-    ensures refused { IfErr result (IsRefusedStep (text_step old.now text.now)) }
+) -> Result<bool, Refused>
+    ensures replaced { IfOk result (IsReplaced manifest.old manifest.new documents.old documents.new text.now) }
+    ensures refused { IfErr result (IsRefusedStep (text_step manifest.old text.now)) }
+    ensures manifest { OnErr result (manifest.new ≡ manifest.old) }
+    ensures documents { OnErr result (documents.new ≡ documents.old) }
+    ensures kept { IsTrue (is_kept manifest.old) → IsTrue (is_kept manifest.new) }
 {
-    let new = read_manifest(alloc, text)?;
-    let mut manifest = old.copy(alloc)?;
-    let dropped = apply(alloc, &mut manifest, new)?;
-    let collections = dropped.collections.as_slice();
-    let keys = documents.keys_in(alloc, collections)?;
-    Ok(Prepared {
-        manifest,
-        dropped,
-        keys,
-    })
+    let Dropped {
+        collections,
+        changed,
+    } = apply_text(alloc, manifest, text)?;
+    if changed {
+        let mut ids = collections.into_vec();
+        ids.sort_unstable();
+        documents.remove_collections(ids.as_slice());
+    }
+    Ok(changed)
 }
 
 /// The reply of success with extras and a value, which are short enough for a reply.

@@ -5,10 +5,9 @@ ghost use Rattle.manifest_rules.specs.State.{is_kept};
 ghost use Rattle.manifest_rules.specs.Text.{text_of};
 ghost use Rattle.vb_core.specs.Log.{with_entries};
 ghost use Rattle.vb_core.specs.Step.{new_copy, document_request, served, set_manifest, id_answer, success, body_step, after, answered, Answers};
-ghost use Rattle.vb_core.specs.Changing.{AreKeysIn, content_under};
 
-use crate::changing::{document_at, draw, make, name_of, next_position, refused_early};
-use crate::managing::{Prepared, prepare, success};
+use crate::changing::{apply_change, document_at, draw, name_of, next_position, refused_early};
+use crate::managing::{replace_manifest, success};
 use doc_model::{DocKey, KeyMap, Refused, Status, What};
 use doc_ops::plan;
 use kv_edge::{Bytes, NoMemory};
@@ -82,14 +81,14 @@ impl Vb {
         ensures answer { Answers self.old request.now now self.new result }
         ensures fits { IsReply result }
     {
-        match self.answer(request, now) {
+        match self.step(request, now) {
             Ok(reply) => reply,
             Err(_refused) => refusal(self.alloc, request.opcode, request.opaque, Status::ENOMEM),
         }
     }
 
     /// The answer of the step. At `Err` the vbucket is as before.
-    fn answer(&mut self, request: &Request, now: u64) -> Result<Reply, NoMemory>
+    fn step(&mut self, request: &Request, now: u64) -> Result<Reply, NoMemory>
         requires request { IsRequest request.now }
         requires ours { is_for_session request.now.body ≡ false }
         ensures new { OnOk result (self.new ≡ after self.old request.now now) }
@@ -100,8 +99,8 @@ impl Vb {
         let now = now.min(LAST_MOMENT);
         let seen = self.seen.max(now);
         let reply = match name_of(&request.body) {
-            Some(key) => self.serve(request, key, seen, now)?,
-            None => self.manage(request)?,
+            Some(key) => self.on_document(request, key, seen, now)?,
+            None => self.on_manifest(request)?,
         };
         self.seen = seen;
         Ok(reply)
@@ -109,7 +108,7 @@ impl Vb {
 
     /// The answer to a request on the document of a key, where `seen` is the greatest moment seen. At `Err` the vbucket is
     /// as before.
-    fn serve(
+    fn on_document(
         &mut self,
         request: &Request,
         key: &DocKey,
@@ -127,12 +126,12 @@ impl Vb {
     {
         match refused_early(&self.manifest, request, key.collection) {
             Some(status) => Ok(refusal(self.alloc, request.opcode, request.opaque, status)),
-            None => self.operate(request, key, seen, now),
+            None => self.change_document(request, key, seen, now),
         }
     }
 
     /// The answer to a request on the document of a key that we serve. At `Err` the vbucket is as before.
-    fn operate(
+    fn change_document(
         &mut self,
         request: &Request,
         key: &DocKey,
@@ -155,7 +154,7 @@ impl Vb {
         match plan(self.alloc, request, doc, lifetime, now, cas) {
             Ok(change) => {
                 let documents = &mut self.documents;
-                let made = make(
+                let made = apply_change(
                     self.alloc,
                     documents,
                     &request.body,
@@ -181,7 +180,7 @@ impl Vb {
     }
 
     /// The answer to a request on the manifest, which doesn't go by the moment. At `Err` the vbucket is as before.
-    fn manage(&mut self, request: &Request) -> Result<Reply, NoMemory>
+    fn on_manifest(&mut self, request: &Request) -> Result<Reply, NoMemory>
         requires ours { is_for_session request.now.body ≡ false }
         requires key { key_named request.now.body ≡ None }
         ensures new { OnOk result ((seen now : ℕ) → self.new ≡ record self.old { content = with_entries self.old.content (body_step self.old.content seen now request.now request.now.body).0 }) }
@@ -214,9 +213,16 @@ impl Vb {
         ensures err { OnErr result (self.new ≡ self.old) }
     {
         let position = next_position(self.position)?;
-        match prepare(self.alloc, &self.manifest, &self.documents, text.as_slice()) {
-            Ok(prepared) => {
-                self.install(prepared, position);
+        match replace_manifest(
+            self.alloc,
+            &mut self.manifest,
+            &mut self.documents,
+            text.as_slice(),
+        ) {
+            Ok(changed) => {
+                if changed {
+                    self.position = position;
+                }
                 Ok(refusal(self.alloc, request.opcode, request.opaque, Status::SUCCESS))
             }
             Err(Refused::Status(status)) => Ok(refusal(
@@ -226,24 +232,6 @@ impl Vb {
                 status,
             )),
             Err(Refused::NoMemory) => Err(NoMemory),
-        }
-    }
-
-    /// Lets a manifest take the place of the one that is there, if it changes anything, as the entry at a position.
-    fn install(&mut self, prepared: Prepared, position: u64)
-        requires keys { AreKeysIn self.old.content.documents prepared.dropped.collections prepared.keys }
-        requires kept { IsTrue (is_kept self.old.content.manifest) → IsTrue (is_kept prepared.manifest) }
-        ensures { self.new ≡ record self.old { content = content_under self.old.content prepared position } }
-    {
-        let Prepared {
-            manifest,
-            dropped,
-            keys,
-        } = prepared;
-        if dropped.changed {
-            self.documents.remove_all(keys.as_slice());
-            self.manifest = manifest;
-            self.position = position;
         }
     }
 

@@ -11,8 +11,8 @@ use Rattle.vb_core.specs.Log.{Content, with_entries, doc_of}
 use Rattle.vb_core.specs.Step.{Copy, document_request}
 use Rattle.vb_core.proofs.Planned.{IsPlanned, IsMade, its_key, made_at, planned_is, made_is}
 use Rattle.vb_core.proofs.Small.{IsStep, change_small, changed_small, change_fits}
-use Rattle.vb_core.proofs.vb.Vb.operate.Goals as goal
-use Rattle.vb_core.proofs.vb.Vb.operate.Goals.{then-made, else-made}
+use Rattle.vb_core.proofs.vb.Vb.change_document.Goals as goal
+use Rattle.vb_core.proofs.vb.Vb.change_document.Goals.{then-made, else-made}
 
 before : goal.Joined-made → Content
 before c = record { documents = c.self.inside.documents; greatest_cas = c.self.inside.greatest_cas; position = c.self.inside.position; manifest = c.self.inside.manifest }
@@ -28,9 +28,9 @@ planned c = record {
 }
 
 -- what is made, where this tells whether there was a change
-made : (c : goal.Joined-made) (changed : Bool) → c.in_ok-made-in-Ok.made.changed ≡ changed → IsMade (before c) (document_key c.args.request.now.body) c.in-Ok.change c.in_ok-cas.cas c.in_ok-position.position c.make.new.documents changed
+made : (c : goal.Joined-made) (changed : Bool) → c.in_ok-made-in-Ok.made.changed ≡ changed → IsMade (before c) (document_key c.args.request.now.body) c.in-Ok.change c.in_ok-cas.cas c.in_ok-position.position c.apply_change.new.documents changed
 unfolding before
-made c changed e = record { documents_are = made_at c.make.new.documents c.self.inside.documents c.in-Ok.change.effect c.in_ok-cas.cas c.in_ok-position.position c.args.request.now.body c.args.key.now c.requires.key c.in_ok-made-in-Ok.ensures.documents; changed_is = sym e ∙ c.in_ok-made-in-Ok.ensures.changed }
+made c changed e = record { documents_are = made_at c.apply_change.new.documents c.self.inside.documents c.in-Ok.change.effect c.in_ok-cas.cas c.in_ok-position.position c.args.request.now.body c.args.key.now c.requires.key c.in_ok-made-in-Ok.ensures.documents; changed_is = sym e ∙ c.in_ok-made-in-Ok.ensures.changed }
 
 -- what a vbucket comes to by a request
 abbrev operated : ℕ → ℕ → Request → Copy → Copy
@@ -68,13 +68,13 @@ changing : (c : goal.After-self-then-made-1) → IsStep c.self.inside.documents 
 changing c = record { all = c.self.invariant.0; is = c.requires.request; initial = c.requires.initial; bound = omega arith; found = c.document_at-doc.ensures ∙ ap (λ k. doc_of (map.get c.self.inside.documents k)) (sym (its_key c.args.request.now.body c.args.key.now c.requires.key)); step = c.in-Ok.ensures }
 
 pub invariant_of-self-then-made : goal.invariant_of-self-then-made
-invariant_of-self-then-made c = (changed_small c.make.new.documents c.in_ok-position.position (changing c) (made_at c.make.new.documents c.self.inside.documents c.in-Ok.change.effect c.in_ok-cas.cas c.in_ok-position.position c.args.request.now.body c.args.key.now c.requires.key c.in_ok-made-in-Ok.ensures.documents), c.self.invariant.1, c.self.invariant.2)
+invariant_of-self-then-made c = (changed_small c.apply_change.new.documents c.in_ok-position.position (changing c) (made_at c.apply_change.new.documents c.self.inside.documents c.in-Ok.change.effect c.in_ok-cas.cas c.in_ok-position.position c.args.request.now.body c.args.key.now c.requires.key c.in_ok-made-in-Ok.ensures.documents), c.self.invariant.1, c.self.invariant.2)
 
 staying : (c : goal.Else-made) → IsStep c.self.inside.documents c.args.now c.args.request.now (option_copied c.document_at-doc.result) c.max_ttl-lifetime.result c.in_ok-cas.cas c.in-Ok.change
 staying c = record { all = c.self.invariant.0; is = c.requires.request; initial = c.requires.initial; bound = omega arith; found = c.document_at-doc.ensures ∙ ap (λ k. doc_of (map.get c.self.inside.documents k)) (sym (its_key c.args.request.now.body c.args.key.now c.requires.key)); step = c.in-Ok.ensures }
 
 pub invariant_of-self-else-made : goal.invariant_of-self-else-made
-invariant_of-self-else-made c = (changed_small c.make.new.documents c.in_ok-position.position (staying c) (made_at c.make.new.documents c.self.inside.documents c.in-Ok.change.effect c.in_ok-cas.cas c.in_ok-position.position c.args.request.now.body c.args.key.now c.requires.key c.in_ok-made-in-Ok.ensures.documents), c.self.invariant.1, c.self.invariant.2)
+invariant_of-self-else-made c = (changed_small c.apply_change.new.documents c.in_ok-position.position (staying c) (made_at c.apply_change.new.documents c.self.inside.documents c.in-Ok.change.effect c.in_ok-cas.cas c.in_ok-position.position c.args.request.now.body c.args.key.now c.requires.key c.in_ok-made-in-Ok.ensures.documents), c.self.invariant.1, c.self.invariant.2)
 
 pub invariant_of-self : goal.invariant_of-self
 invariant_of-self c = (rw c.in_err-made-in-Ok.ensures.err c.self.invariant.0, c.self.invariant.1, c.self.invariant.2)

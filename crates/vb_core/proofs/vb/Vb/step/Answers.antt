@@ -5,8 +5,8 @@ use Rattle.kv_request.specs.declared.reply.Reply.{Reply}
 use Rattle.vb_core.specs.Log.{Entry, with_entries}
 use Rattle.vb_core.specs.Step.{Copy, request_step, seen_with, moment_of}
 use Rattle.vb_core.proofs.Runs.{named_step, after_is, answer_is}
-use Rattle.vb_core.proofs.vb.Vb.answer.Goals as goal
-use Rattle.vb_core.proofs.vb.Vb.answer.Goals.{in-Some+in_ok-reply-in-Some, in-None+in_ok-reply-in-None}
+use Rattle.vb_core.proofs.vb.Vb.step.Goals as goal
+use Rattle.vb_core.proofs.vb.Vb.step.Goals.{in-Some+in_ok-reply-in-Some, in-None+in_ok-reply-in-None}
 
 moment_is : (c : goal.After-self-1) → c.min-now.result ≡ moment_of c.args.now
 moment_is c = c.min-now.ensures
