@@ -3,7 +3,7 @@
 #![tactic(auto)]
 
 use kv_edge::{StdClock, StdSink, StdSource};
-use kv_tool::{Exit, run_offline};
+use kv_tool::{Exit, VERSION_TEXT, run_offline};
 use std::env;
 use std::io::ErrorKind;
 use std::process::ExitCode;
@@ -16,8 +16,6 @@ usage: hawoyefa pipe
   --help      prints this text
   --version   prints the version
 ";
-
-const VERSION: &str = "hawoyefa 0.1.0\n";
 
 /// The words behind the program's name. A word that is no text is a faulty command line.
 fn words(rt: &HostRuntime) -> Result<Vec<String>, Exit> {
@@ -48,6 +46,14 @@ fn print(rt: &HostRuntime, text: &str) -> ExitCode {
     }
 }
 
+/// Prints the version, which is the one that a connection is told.
+fn print_version(rt: &HostRuntime) -> ExitCode {
+    match println!(rt; "hawoyefa {VERSION_TEXT}") {
+        Ok(()) => ExitCode::SUCCESS,
+        Err(_) => finish(rt, Exit::WriteFault),
+    }
+}
+
 fn main(rt: HostRuntime) -> ExitCode {
     let words = match words(&rt) {
         Ok(words) => words,
@@ -55,7 +61,7 @@ fn main(rt: HostRuntime) -> ExitCode {
     };
     match words.as_slice() {
         [word] if word.as_str() == "--help" => print(&rt, HELP),
-        [word] if word.as_str() == "--version" => print(&rt, VERSION),
+        [word] if word.as_str() == "--version" => print_version(&rt),
         _ => {
             let mut source = StdSource::new(rt.stdin());
             let mut sink = StdSink::new(rt.stdout());

@@ -1,48 +1,29 @@
 -- One frame is answered.
-use Rattle.std.proofs.Common.{◌≡◌, ℕ, ◌+◌, ◌≤◌, List, ◌++◌, length, take, drop, sym, ap, subst, ◌∙◌, arith}
+use Rattle.std.proofs.Common.{◌≡◌, ℕ, ◌+◌, ◌-◌, ◌≤◌, List, ◌++◌, Result, Ok, length, take, drop, refl, sym, ap, subst, ◌∙◌, arith}
 use Rattle.std.specs.Global.{Vec}
-use Rattle.std.proofs.lemmas.List.{length-append, length-take, length-drop}
+use Rattle.std.proofs.lemmas.List.{length-append, length-take, length-take-le, length-drop}
 use Rattle.kv_frame.specs.declared.frame.TheConstants.{HEADER_LENGTH}
 use Rattle.kv_frame.specs.declared.frame.Side.{Side}
+use Rattle.kv_frame.specs.declared.frame.Side.TheVariants.{Requests}
 use Rattle.kv_frame.specs.declared.judging.Fault.{Fault}
 use Rattle.kv_frame.specs.declared.judging.Fault.TheVariants as faults
 use Rattle.kv_frame.specs.Grammar.{section}
-use Rattle.kv_frame.specs.Judging.{stated_framing, IsBad}
+use Rattle.kv_frame.specs.Judging.{stated_framing, Lacks, IsBad}
 use Rattle.kv_request.specs.declared.request.Request.{Request}
 use Rattle.kv_request.specs.declared.reply.Reply.{Reply}
+use Rattle.kv_edge.specs.declared.traits.NoMemory.{NoMemory}
+use Rattle.kv_session.specs.declared.session.Next.{Next}
 use Rattle.kv_session.specs.declared.session.Next.TheVariants as nexts
 use Rattle.kv_session.specs.Answers.{Made}
 use Rattle.kv_session.specs.Cutting.{behind}
-use Rattle.kv_session.specs.Sending.{sent_bytes}
-use Rattle.kv_session.specs.Session.{Line, Gives}
+use Rattle.kv_request.specs.Sending.{sent_bytes}
+use Rattle.kv_session.specs.Session.{Line, Feeds, Advances}
 use Rattle.vb_core.specs.Step.{Answers}
 use Rattle.kv_tool.specs.declared.connection.Connection.{Connection}
+use Rattle.kv_tool.specs.declared.exit.Exit.TheVariants as exits
 use Rattle.kv_tool.specs.declared.connection.Turn.{Turn}
 use Rattle.kv_tool.specs.declared.connection.Turn.TheVariants as turns
-use Rattle.kv_tool.specs.Progress.{standing, Replies, Turns, Gathers}
-
--- a request that is given out is answered by the vbucket
-pub passes_on : (now : ℕ) (old mid new : Connection) (made : Request) (reply : Reply) (turn : Turn) → Gives old.session mid.session (nexts.Request made) → Answers old.vb made now mid.vb reply
-    → mid.out ≡ old.out → mid.fed ≡ old.fed → Gathers mid reply new turn → Turns now old new turn
-passes_on now old mid new made reply turns.Answered (going, f, used, begins, m, is) answers out fed (appended, others) =
-    record {
-      first = f;
-      used = used;
-      reply = reply;
-      going = going;
-      begins = begins;
-      left = ap (λ (c : Connection). c.session.held) others ∙ ap (λ (l : Line). l.held) is;
-      stands = ap (λ (c : Connection). standing c.session) others ∙ ap standing is ∙ ap (behind (standing old.session)) (sym m);
-      replies = subst (λ (d : Made). Replies now old.vb d new.vb reply) (sym m) (subst (λ (c : Connection). Answers old.vb made now c.vb reply) (sym others) answers);
-      gathered =
-          appended
-          ∙ ap (λ (v : Vec ℕ). v.items ++ sent_bytes mid.session.features reply) out
-          ∙ ap (λ (c : Connection). old.out.items ++ sent_bytes c.session.features reply) (sym others);
-      fed = ap (λ (c : Connection). c.fed) others ∙ fed;
-    }
-passes_on now old mid new made reply turns.NoMemory gives answers out fed gathers = tt
-passes_on now old mid new made reply turns.Waits gives answers out fed gathers = absurd gathers
-passes_on now old mid new made reply (turns.Over exit) gives answers out fed gathers = absurd gathers
+use Rattle.kv_tool.specs.Progress.{standing, Replies, FeedsOn, FeedsOne, Turns, Gathers}
 
 -- what is wrong shows within the bytes
 pub bad_within : (side : Side) (bytes : List ℕ) (place : ℕ) (fault : Fault) → IsBad side bytes place fault → place ≤ length bytes
@@ -53,3 +34,115 @@ bad_within side bytes place faults.Extra (magic, good, whole, offset, at, (es, r
     let size : ℕ = stated_framing magic bytes in
     let parts : length (take size (drop HEADER_LENGTH bytes)) ≡ length (section es) + length rest = ap (λ (l : List ℕ). length l) cut ∙ length-append (section es) rest in
     omega (arith, at, end, parts, length-take size (drop HEADER_LENGTH bytes), length-drop HEADER_LENGTH bytes, good.whole)
+
+-- a session that was fed and gave something out: the connection behind the feeding
+abbrev fed_of : Connection → Line → ℕ → Connection
+fed_of old line count = record old { session = line; fed = old.fed + count }
+
+feeds_on : (old : Connection) (bytes : List ℕ) (line : Line) (count : ℕ) → Feeds old.session bytes line count → FeedsOn old bytes (fed_of old line count) count
+feeds_on old bytes line count feeds = record { feeds = feeds; others = refl }
+
+-- a request that is given out is answered by the vbucket
+pub passes_on : (now : ℕ) (old mid new : Connection) (bytes : List ℕ) (count : ℕ) (made : Request) (reply : Reply) (turn : Turn) → Advances old.session bytes mid.session count (nexts.Request made)
+    → Answers old.vb made now mid.vb reply → mid.out ≡ old.out → mid.fed ≡ old.fed + count → Gathers mid count reply new turn → Turns now old bytes new turn
+passes_on now old mid new bytes count made reply (turns.Answered n) (line, feeds, (going, f, used, begins, m, is)) answers out fed (same, appended, others) =
+    subst (λ (n : ℕ). FeedsOne now old bytes new n) (sym same) (
+      fed_of old line count,
+      feeds_on old bytes line count feeds,
+      record {
+        first = f;
+        used = used;
+        reply = reply;
+        going = going;
+        begins = begins;
+        left = ap (λ (c : Connection). c.session.held) others ∙ ap (λ (l : Line). l.held) is;
+        stands = ap (λ (c : Connection). standing c.session) others ∙ ap standing is ∙ ap (behind (standing line)) (sym m);
+        replies = subst (λ (d : Made). Replies now old.vb d new.vb reply) (sym m) (subst (λ (c : Connection). Answers old.vb made now c.vb reply) (sym others) answers);
+        gathered =
+            appended
+            ∙ ap (λ (v : Vec ℕ). v.items ++ sent_bytes mid.session.features reply) out
+            ∙ ap (λ (c : Connection). old.out.items ++ sent_bytes c.session.features reply) (sym others);
+        fed = ap (λ (c : Connection). c.fed) others ∙ fed;
+      },
+    )
+passes_on now old mid new bytes count made reply turns.NoMemory gives answers out fed kept = kept ∙ ap (λ (v : Vec ℕ). v.items) out
+passes_on now old mid new bytes count made reply turns.Waits gives answers out fed none = absurd none
+passes_on now old mid new bytes count made reply (turns.Over exit) gives answers out fed none = absurd none
+
+-- a reply of the session's own is gathered
+pub tells : (now : ℕ) (old mid new : Connection) (bytes : List ℕ) (count : ℕ) (reply : Reply) (turn : Turn) → Advances old.session bytes mid.session count (nexts.Refused reply)
+    → mid.vb ≡ old.vb → mid.out ≡ old.out → mid.fed ≡ old.fed + count → Gathers mid count reply new turn → Turns now old bytes new turn
+tells now old mid new bytes count reply (turns.Answered n) (line, feeds, (going, f, used, features, quit, begins, m, is)) stays out fed (same, appended, others) =
+    subst (λ (n : ℕ). FeedsOne now old bytes new n) (sym same) (
+      fed_of old line count,
+      feeds_on old bytes line count feeds,
+      record {
+        first = f;
+        used = used;
+        reply = reply;
+        going = going;
+        begins = begins;
+        left = ap (λ (c : Connection). c.session.held) others ∙ ap (λ (l : Line). l.held) is;
+        stands = ap (λ (c : Connection). standing c.session) others ∙ ap standing is ∙ ap (behind (standing line)) (sym m);
+        replies = subst (λ (d : Made). Replies now old.vb d new.vb reply) (sym m) (ap (λ (c : Connection). c.vb) others ∙ stays, refl);
+        gathered =
+            appended
+            ∙ ap (λ (v : Vec ℕ). v.items ++ sent_bytes mid.session.features reply) out
+            ∙ ap (λ (c : Connection). old.out.items ++ sent_bytes c.session.features reply) (sym others);
+        fed = ap (λ (c : Connection). c.fed) others ∙ fed;
+      },
+    )
+tells now old mid new bytes count reply turns.NoMemory gives stays out fed kept = kept ∙ ap (λ (v : Vec ℕ). v.items) out
+tells now old mid new bytes count reply turns.Waits gives stays out fed none = absurd none
+tells now old mid new bytes count reply (turns.Over exit) gives stays out fed none = absurd none
+
+-- where the session stays as it was fed
+pub stays_fed : (old : Connection) (bytes : List ℕ) (line new : Line) (count : ℕ) → Feeds old.session bytes line count → new ≡ line → FeedsOn old bytes (fed_of old new count) count
+stays_fed old bytes line new count feeds same = feeds_on old bytes new count (subst (λ (l : Line). Feeds old.session bytes l count) (sym same) feeds)
+
+-- bytes that are held were fed
+pub held_fed : (old : Line) (bytes : List ℕ) (line new : Line) (count fed : ℕ) → Feeds old bytes line count → new ≡ line → length old.held ≤ fed → length new.held ≤ fed + count
+held_fed old bytes line new count fed feeds same within =
+    omega (
+      arith,
+      within,
+      ap (λ (l : Line). length l.held) same,
+      ap (λ (l : Line). length l.held) feeds.taken,
+      length-append old.held (take count bytes),
+      length-take-le count bytes feeds.within,
+    )
+
+-- what an answer of the session gives
+pub given_so : (given : ℕ × Next) (next : Next) → given.1 ≡ next → ◌≡◌ {A = Result (ℕ × Next) NoMemory} (Ok given) (Ok (given.0, next))
+given_so given next is = ap (λ (x : Next). let r : Result (ℕ × Next) NoMemory = Ok (given.0, x) in r) is
+
+-- bytes are missing, and all that there were are fed
+pub waits : (now : ℕ) (old : Connection) (bytes : List ℕ) (line : Line) (count missing : ℕ) → Advances old.session bytes line count (nexts.More missing) → count ≡ length bytes → Turns now old bytes (fed_of old line count) turns.Waits
+waits now old bytes line count missing (mid, feeds, (going, lacks, is)) all = (
+  subst (λ (n : ℕ). FeedsOn old bytes (fed_of old line count) n) all (stays_fed old bytes mid line count feeds is),
+  record {
+    going = ap (λ (l : Line). l.quit) is ∙ going;
+    lacking = (missing, subst (λ (l : Line). Lacks Requests l.held missing) (sym is) lacks);
+  },
+)
+
+-- no frame begins so
+pub breaks : (now : ℕ) (old : Connection) (bytes : List ℕ) (line : Line) (count place at : ℕ) (fault : Fault) → Advances old.session bytes line count (nexts.Bad place fault) → length old.session.held ≤ old.fed
+    → at ≡ old.fed + count - length line.held + place → Turns now old bytes (fed_of old line count) (turns.Over (exits.BadFrame at))
+breaks now old bytes line count place at fault (mid, feeds, (going, bad, is)) held at-is =
+    let within = held_fed old.session bytes mid line count old.fed feeds is held in (
+      count,
+      stays_fed old bytes mid line count feeds is,
+      (
+        ap (λ (l : Line). l.quit) is ∙ going,
+        place,
+        fault,
+        subst (λ (l : Line). IsBad Requests l.held place fault) (sym is) bad,
+        omega (arith, at-is, within),
+      ),
+    )
+
+-- a place in the bytes held is below the limit of what is fed
+pub bad_short : (old : Line) (bytes : List ℕ) (line : Line) (count place fed : ℕ) (fault : Fault) → Advances old bytes line count (nexts.Bad place fault) → length old.held ≤ fed → (place ≤ length line.held) × (length line.held ≤ fed + count)
+bad_short old bytes line count place fed fault (mid, feeds, (going, bad, is)) held =
+    (bad_within Requests line.held place fault (subst (λ (l : Line). IsBad Requests l.held place fault) (sym is) bad), held_fed old bytes mid line count fed feeds is held)

@@ -48,10 +48,6 @@ stops now seen unfed c before after n p put = (
   ),
 )
 
--- nothing more is written
-pub gives_up : (now : ℕ) (seen : Seen) (unfed : List ℕ) (c : Connection) → Progress now seen unfed c → Stops now seen
-gives_up now seen unfed c p = stops now seen unfed c seen.written_now seen.written_now 0 p (put_nothing seen.written_now)
-
 -- all that is gathered is written
 wrote_all : (now : ℕ) (seen : Seen) (unfed : List ℕ) (c : Connection) (before after : Option (List ℕ)) → (p : Progress now (record seen { written_now = before }) unfed c) → PutAll before after c.out.items
     → WroteAll (record seen { written_now = after }) (run_of now (record seen { written_now = before }) unfed c p)
@@ -108,6 +104,23 @@ ends now seen unfed old new before after exit result p ended (inl (is, others, e
 ends now seen unfed old new before after exit result p ended (inr (is, same, n, put)) =
     subst (Serves now (record seen { written_now = after }) new) (sym is) (stops now seen unfed old before after n p put, λ e. cc, λ e. cc)
 
+-- memory is refused, and what was gathered before is written
+pub falls_short : (now : ℕ) (seen : Seen) (unfed : List ℕ) (old mid new : Connection) (before after : Option (List ℕ)) (result : Option Exit) → Progress now (record seen { written_now = before }) unfed old → mid.out.items ≡ old.out.items
+    → Finishes before after mid new (Some exits.NoMemory) result → Serves now (record seen { written_now = after }) new result
+falls_short now seen unfed old mid new before after result p kept (inl (is, others, empty, put)) =
+    let left : Seen = record seen { written_now = before } in
+    subst (Serves now (record seen { written_now = after }) new) (sym is) (
+      (run_of now left unfed old p, is_run now left unfed old p, p.took, wrote_all now seen unfed old before after p (subst (PutAll before after) kept put)),
+      λ e. cc,
+      λ e. cc,
+    )
+falls_short now seen unfed old mid new before after result p kept (inr (is, same, n, put)) =
+    subst (Serves now (record seen { written_now = after }) new) (sym is) (
+      stops now seen unfed old before after n p (subst (λ (l : List ℕ). PutAll before after (take n l)) kept put),
+      λ e. cc,
+      λ e. cc,
+    )
+
 -- ---- the end of the input
 
 -- between two reads: bytes of a frame are missing, and all replies are written
@@ -130,12 +143,12 @@ starts_paused now left written new fresh =
     }
 
 -- memory is refused before the first byte
-pub never_starts : (now : ℕ) (left written : Option (List ℕ)) → Stops now (record { left_before = left; left_now = left; written_before = written; written_now = written })
+pub never_starts : (now : ℕ) (left written : Option (List ℕ)) → Outcome (λ moment. moment ≡ now) (record { left_before = left; left_now = left; written_before = written; written_now = written }) exits.NoMemory
 never_starts now left written = (
   record { now = now; input = []; frames = []; rest = []; replies = [] },
   record { moment = refl; small = omega arith; served = record { read = record { spelled = refl; sent = tt; open_before = tt }; log = []; answered = refl } },
   took_nothing left,
-  (0, put_nothing written),
+  put_nothing written,
 )
 
 -- a piece is taken

@@ -4,3 +4,4 @@ pub mod Ending
 pub mod Running
 pub mod Same
 pub mod Snoc
+pub mod Alike

@@ -1,13 +1,14 @@
 -- A run of `pipe` goes on.
 use Rattle.std.proofs.Common.{◌≡◌, ℕ, ◌+◌, ◌≤◌, List, [], ◌∷◌, ◌++◌, length, take, drop, Option, inl, inr, refl, sym, ap, subst, ◌∙◌, append_assoc, append-nil, take-append-drop, length-append, length-drop, arith}
 use Rattle.std.proofs.lemmas.List.{length-take-le}
+use Rattle.std.proofs.Math.Seq.{drop-length}
 use Rattle.kv_edge.specs.Edge.{TookAll, PutAll}
 use Rattle.kv_edge.proofs.Known.{took_more, put_more, took_nothing, put_nothing}
 use Rattle.kv_frame.specs.declared.frame.Frame.{Frame}
 use Rattle.kv_request.specs.declared.reply.Reply.{Reply}
 use Rattle.kv_session.specs.Answers.{Made, Passed, Told, made_by}
 use Rattle.kv_session.specs.Cutting.{Standing, at_start, behind_all, IsRead}
-use Rattle.kv_session.specs.Sending.{sent_bytes}
+use Rattle.kv_request.specs.Sending.{sent_bytes}
 use Rattle.kv_session.specs.Session.{Line}
 use Rattle.vb_core.specs.Log.{Entry, Content, no_content, content_of, with_entries, with_entries-append}
 use Rattle.vb_core.specs.Step.{Copy, moment_of, seen_with, request_step, step_at}
@@ -15,7 +16,7 @@ use Rattle.kv_tool.specs.declared.connection.Connection.{Connection}
 use Rattle.kv_tool.specs.declared.piping.TheConstants.{INPUT_LIMIT}
 use Rattle.kv_tool.specs.Pipe.{IsAnswer}
 use Rattle.kv_tool.specs.Outcomes.{Seen}
-use Rattle.kv_tool.specs.Progress.{IsNew, standing, Replies, AnswersOne, FeedsOn, Progress}
+use Rattle.kv_tool.specs.Progress.{IsNew, standing, Replies, AnswersOne, FeedsOn, FeedsOne, Progress}
 use Rattle.kv_tool.proofs.Snoc.{behind_one, stands_more, read_more, read_further, replies_more, reply_bytes_more}
 
 -- before the first byte
@@ -104,6 +105,10 @@ writes now seen unfed old new before after front p others put split = record {
   gathered = p.gathered ∙ ap (λ (l : List ℕ). p.sent ++ l) split ∙ sym (append_assoc p.sent front new.out.items);
 }
 
+-- all bytes were fed
+pub feeds_all : (now : ℕ) (seen : Seen) (unfed : List ℕ) (old new : Connection) → Progress now seen unfed old → FeedsOn old unfed new (length unfed) → Progress now seen [] new
+feeds_all now seen unfed old new p fed = subst (λ (l : List ℕ). Progress now seen l new) (drop-length unfed) (feeds now seen unfed old new (length unfed) p fed)
+
 -- ---- a frame
 
 -- the greatest moment seen is that of the run
@@ -178,3 +183,7 @@ answers now seen unfed old new p one =
           ∙ ap (λ (s : Standing). p.sent ++ (old.out.items ++ sent_bytes s.features one.reply)) (sym behind)
           ∙ ap (λ (l : List ℕ). p.sent ++ l) (sym one.gathered);
     }
+
+-- bytes were fed, and the frame that they ended was answered
+pub feeds_one : (now : ℕ) (seen : Seen) (unfed : List ℕ) (old new : Connection) (n : ℕ) → Progress now seen unfed old → FeedsOne now old unfed new n → Progress now seen (drop n unfed) new
+feeds_one now seen unfed old new n p (mid, fed, one) = answers now seen (drop n unfed) mid new (feeds now seen unfed old mid n p fed) one

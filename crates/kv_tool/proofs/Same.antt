@@ -10,7 +10,7 @@ use Rattle.kv_session.proofs.CuttingLaws.{one_reading}
 use Rattle.vb_core.specs.Log.{Entry}
 use Rattle.kv_tool.specs.Pipe.{IsAnswer, AreReplies, IsServed, output}
 
--- a reply that isn't Enomem
+-- a reply that isn't ENOMEM
 abbrev pub IsGiven : Reply → Type 0
 IsGiven reply = reply.status ≢ status.ENOMEM
 
@@ -43,10 +43,10 @@ same_replies now standing log (f ∷ fs) (a ∷ replies) (b ∷ answers) end oth
     given.1 told.1 in
     ap (λ (r : Reply). r ∷ replies) same.reply_same ∙ ap (λ (rs : List Reply). b ∷ rs) tails
 
-pub same_output : (now : ℕ) (input : List ℕ) (frames others : List Frame) (rest left : List ℕ) (replies answers : List Reply)
+pub same_served : (now : ℕ) (input : List ℕ) (frames others : List Frame) (rest left : List ℕ) (replies answers : List Reply)
     → IsServed now input frames rest replies → IsDrained frames rest → IsServed now input others left answers → IsDrained others left → AllByRecursion IsGiven replies → AllByRecursion IsGiven answers
     → (frames ≡ others) × (rest ≡ left) × (output frames replies ≡ output others answers)
-same_output now input frames others rest left replies answers served done other ended given told =
+same_served now input frames others rest left replies answers served done other ended given told =
     let same = one_reading input frames others rest left served.read done other.read ended in
     let replied : replies ≡ answers =
     same_replies now at_start [] frames replies answers served.log other.log served.answered

@@ -9,7 +9,7 @@ use Rattle.kv_frame.specs.Judging.{BeginsWith}
 use Rattle.kv_request.specs.declared.reply.Reply.{Reply}
 use Rattle.kv_session.specs.Answers.{made_by}
 use Rattle.kv_session.specs.Cutting.{Standing, at_start, behind, behind_all, NoneBehindQuit, IsSent, IsRead}
-use Rattle.kv_session.specs.Sending.{sent_bytes}
+use Rattle.kv_request.specs.Sending.{sent_bytes}
 use Rattle.vb_core.specs.Log.{Entry}
 use Rattle.kv_tool.specs.Pipe.{IsAnswer, AreReplies, reply_bytes}
 

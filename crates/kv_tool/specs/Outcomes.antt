@@ -77,7 +77,8 @@ Outcome Moment seen exits.Usage = Took seen [] × Wrote seen []
 Outcome Moment seen exits.ReadFault = (run : Run) × IsRun Moment run × Took seen run.input × IsOpen run × WroteAll seen run
 -- a front of the replies was written
 Outcome Moment seen exits.WriteFault = (run : Run) × IsRun Moment run × Took seen run.input × WroteFront seen run
-Outcome Moment seen exits.NoMemory = (run : Run) × IsRun Moment run × Took seen run.input × WroteFront seen run
+-- memory was refused, and the replies to the frames that were answered were written, all of them
+Outcome Moment seen exits.NoMemory = (run : Run) × IsRun Moment run × Took seen run.input × WroteAll seen run
 -- as many bytes as are taken came and one more, and the replies to the whole frames among the former were written
 Outcome Moment seen exits.TooLong =
     (run : Run) × (more : ℕ) × IsRun Moment run × (length run.input ≡ INPUT_LIMIT) × Took seen (run.input ++ more ∷ []) × IsOpen run × WroteAll seen run

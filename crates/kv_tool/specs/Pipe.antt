@@ -6,13 +6,13 @@ use Rattle.doc_model.specs.declared.status.TheConstants.Status as status
 use Rattle.kv_request.specs.declared.reply.Reply.{Reply}
 use Rattle.kv_request.specs.Tables.{refused}
 use Rattle.kv_session.specs.Answers.{Made, Passed, Told, made_by}
-use Rattle.kv_session.specs.Sending.{sent_bytes}
+use Rattle.kv_request.specs.Sending.{sent_bytes}
 use Rattle.kv_session.specs.Cutting.{Standing, at_start, behind, behind_all, IsRead}
 use Rattle.vb_core.specs.Log.{Entry, content_of}
 use Rattle.vb_core.specs.Step.{moment_of, request_step}
 
 -- A frame of which this is made appends these entries and gets this reply: the session's own reply and none; or what the
--- request step says; or Enomem and none, where memory was refused.
+-- request step says; or ENOMEM and none, where memory was refused.
 abbrev pub IsAnswer : ℕ → List Entry → Made → List Entry → Reply → Type 0
 IsAnswer now log (Told own features quit) entries reply = (entries ≡ []) × (reply ≡ own)
 IsAnswer now log (Passed made) entries reply =

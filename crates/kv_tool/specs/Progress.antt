@@ -11,8 +11,8 @@ use Rattle.kv_frame.specs.Judging.{BeginsWith, Lacks, IsBad}
 use Rattle.kv_request.specs.declared.reply.Reply.{Reply}
 use Rattle.kv_session.specs.Answers.{Made, Passed, Told, made_by}
 use Rattle.kv_session.specs.Cutting.{Standing, at_start, behind, behind_all, IsRead}
-use Rattle.kv_session.specs.Sending.{sent_bytes}
-use Rattle.kv_session.specs.Session.{Line, new_line, IsFull, Feeds}
+use Rattle.kv_request.specs.Sending.{sent_bytes}
+use Rattle.kv_session.specs.Session.{Line, new_line, Feeds}
 use Rattle.vb_core.specs.Log.{Entry, content_of}
 use Rattle.vb_core.specs.Step.{Copy, new_copy, moment_of, Answers}
 use Rattle.kv_tool.specs.declared.connection.Connection.{Connection}
@@ -74,26 +74,29 @@ IsOver c exits.NoMemory = ⊥
 IsOver c exits.TooLong = ⊥
 IsOver c (exits.Cut count) = ⊥
 
--- what came of asking for the next frame
-abbrev pub Turns : ℕ → Connection → Connection → Turn → Type 0
-Turns now old new turns.Answered = AnswersOne now old new
-Turns now old new turns.Waits = (new ≡ old) × IsWaiting old.session
-Turns now old new (turns.Over exit) = (new ≡ old) × IsOver old exit
-Turns now old new turns.NoMemory = Unit {0}
-
--- the bytes of a reply were gathered, or memory was refused
-abbrev pub Gathers : Connection → Reply → Connection → Turn → Type 0
-Gathers old reply new turns.Answered =
-    (new.out.items ≡ old.out.items ++ sent_bytes old.session.features reply) × (new ≡ record old { out = new.out })
-Gathers old reply new turns.NoMemory = Unit {0}
-Gathers old reply new turns.Waits = ⊥
-Gathers old reply new (turns.Over exit) = ⊥
-
 -- the first bytes, this many, were fed to the session
 pub record FeedsOn (old : Connection) (bytes : List ℕ) (new : Connection) (count : ℕ) : Type 0 where
   pub feeds : Feeds old.session bytes new.session count
-  pub progress : count ≡ 0 → (bytes ≡ []) ⊎ IsFull old.session
   pub others : new ≡ record old { session = new.session; fed = old.fed + count }
+
+-- bytes were fed, this many, and then the frame that they ended was answered
+abbrev pub FeedsOne : ℕ → Connection → List ℕ → Connection → ℕ → Type 0
+FeedsOne now old bytes new count = (mid : Connection) × FeedsOn old bytes mid count × AnswersOne now mid new
+
+-- What came of taking these bytes up to the end of a frame.
+abbrev pub Turns : ℕ → Connection → List ℕ → Connection → Turn → Type 0
+Turns now old bytes new (turns.Answered count) = FeedsOne now old bytes new count
+Turns now old bytes new turns.Waits = FeedsOn old bytes new (length bytes) × IsWaiting new.session
+Turns now old bytes new (turns.Over exit) = (count : ℕ) × FeedsOn old bytes new count × IsOver new exit
+Turns now old bytes new turns.NoMemory = new.out.items ≡ old.out.items
+
+-- the bytes of a reply were gathered, or memory was refused and nothing was
+abbrev pub Gathers : Connection → ℕ → Reply → Connection → Turn → Type 0
+Gathers old count reply new (turns.Answered n) =
+    (n ≡ count) × (new.out.items ≡ old.out.items ++ sent_bytes old.session.features reply) × (new ≡ record old { out = new.out })
+Gathers old count reply new turns.NoMemory = new.out.items ≡ old.out.items
+Gathers old count reply new turns.Waits = ⊥
+Gathers old count reply new (turns.Over exit) = ⊥
 
 -- Gathered bytes were written: a front of them, and the others are still gathered, or a front of them and a fault.
 abbrev pub Empties : Option (List ℕ) → Option (List ℕ) → Connection → Connection → WriteAll → Type 0

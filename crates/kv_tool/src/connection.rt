@@ -1,10 +1,11 @@
 //! A connection: its frames are answered from one vbucket as they come, and the replies are gathered and written.
 
-ghost use Rattle.std.specs.Prelude.{◌≡◌, ◌≢◌, ◌≤◌, ◌+◌, Some, None, [], length, IfOk, OnOk, OnErr};
+ghost use Rattle.std.specs.Prelude.{◌≡◌, ◌≢◌, ◌≤◌, ◌+◌, Some, None, [], length, IfOk};
 ghost use Rattle.kv_edge.specs.Edge.{Rose};
 ghost use Rattle.kv_request.specs.Tables.{IsReply};
 ghost use Rattle.kv_tool.specs.Outcomes.{Seen};
-ghost use Rattle.kv_tool.specs.Progress.{IsNew, Turns, Gathers, FeedsOn, Progress, Serves, Empties, Finishes, EndsAt};
+ghost use Rattle.kv_tool.specs.Progress.{IsNew, Turns, Gathers, Progress, Serves, Empties};
+ghost use Rattle.kv_tool.specs.Progress.{Finishes, EndsAt};
 
 use crate::exit::Exit;
 use crate::piping::INPUT_LIMIT;
@@ -31,13 +32,13 @@ pub(crate) struct Connection {
 /// What came of asking for the next frame.
 #[derive(Clone, Copy)]
 enum Turn {
-    /// A frame was answered, and its reply gathered.
-    Answered,
-    /// Bytes of a frame are missing.
+    /// This many bytes were taken up to the end of a frame, which was answered, and its reply gathered.
+    Answered(usize),
+    /// All bytes were taken, and more of a frame are missing.
     Waits,
     /// No further frame is answered: the run is to end so.
     Over(Exit),
-    /// Memory was refused.
+    /// Memory was refused, and what is gathered is as before.
     NoMemory,
 }
 
@@ -56,8 +57,13 @@ impl Connection {
     }
 
     /// Answers the frames of the next piece of the input, and writes the replies to them. Where the run ends in the
-    /// piece, this is what it comes to.
-    pub(crate) fn serve<K: Sink>(&mut self, sink: &mut K, piece: &[u8], now: u64) -> Option<Exit>
+    /// piece, this is what it comes to. Also where memory is refused, the replies gathered before are written.
+    pub(crate) fn take_piece<K: Sink>(
+        &mut self,
+        sink: &mut K,
+        piece: &[u8],
+        now: u64,
+    ) -> Option<Exit>
         requires held { length self.old.session.held ≤ self.old.fed }
         requires room { self.old.fed + length piece.now ≤ INPUT_LIMIT }
         ensures serves { (seen : Seen) →
@@ -70,23 +76,18 @@ impl Connection {
     {
         let mut at = 0;
         loop {
-            match self.answer_next(now) {
-                Turn::Answered => match self.write_piece(sink) {
-                    WriteAll::Done => {}
-                    WriteAll::Failed => return Some(Exit::WriteFault),
-                },
-                Turn::Waits => {
-                    let (_, rest) = piece.split_at(at);
-                    if rest.is_empty() {
-                        return self.finish(sink, None);
-                    }
-                    match self.feed(rest) {
-                        Ok(count) => at += count,
-                        Err(_refused) => return Some(Exit::NoMemory),
+            let (_, rest) = piece.split_at(at);
+            match self.answer_next(rest, now) {
+                Turn::Answered(count) => {
+                    at += count;
+                    match self.write_piece(sink) {
+                        WriteAll::Done => {}
+                        WriteAll::Failed => return Some(Exit::WriteFault),
                     }
                 }
+                Turn::Waits => return self.finish(sink, None),
                 Turn::Over(exit) => return self.finish(sink, Some(exit)),
-                Turn::NoMemory => return Some(Exit::NoMemory),
+                Turn::NoMemory => return self.finish(sink, Some(Exit::NoMemory)),
             }
         }
     }
@@ -108,17 +109,23 @@ impl Connection {
         self.fed
     }
 
-    /// Answers the next frame where a whole one is held.
-    fn answer_next(&mut self, now: u64) -> Turn
-        requires { length self.old.session.held ≤ self.old.fed }
-        ensures { Turns now self.old self.new result }
+    /// Takes bytes of what is left of a piece up to the end of a frame, and answers that frame.
+    fn answer_next(&mut self, rest: &[u8], now: u64) -> Turn
+        requires held { length self.old.session.held ≤ self.old.fed }
+        requires room { self.old.fed + length rest.now ≤ INPUT_LIMIT }
+        ensures { Turns now self.old rest.now self.new result }
     {
-        match self.session.next_request() {
+        let (count, next) = match self.session.advance(rest) {
+            Ok(given) => given,
+            Err(_refused) => return Turn::NoMemory,
+        };
+        self.fed += count;
+        match next {
             Next::Request(request) => {
                 let reply = self.vb.request(&request, now);
-                self.gather(&reply)
+                self.gather(count, &reply)
             }
-            Next::Refused(reply) => self.gather(&reply),
+            Next::Refused(reply) => self.gather(count, &reply),
             Next::More(_missing) => Turn::Waits,
             Next::Bad(place, _fault) => {
                 Turn::Over(Exit::BadFrame((self.fed - self.session.rest() + place) as u64))
@@ -128,26 +135,15 @@ impl Connection {
         }
     }
 
-    /// Gathers the bytes of a reply.
-    fn gather(&mut self, reply: &Reply) -> Turn
+    /// Gathers the bytes of the reply to a frame behind which this many bytes were taken.
+    fn gather(&mut self, count: usize, reply: &Reply) -> Turn
         requires { IsReply reply.now }
-        ensures { Gathers self.old reply.now self.new result }
+        ensures { Gathers self.old count reply.now self.new result }
     {
         match self.session.answer(reply, &mut self.out) {
-            Ok(()) => Turn::Answered,
+            Ok(()) => Turn::Answered(count),
             Err(_refused) => Turn::NoMemory,
         }
-    }
-
-    /// Feeds bytes to the session, and answers how many it took. At `Err` nothing was taken.
-    fn feed(&mut self, bytes: &[u8]) -> Result<usize, NoMemory>
-        requires { self.old.fed + length bytes.now ≤ INPUT_LIMIT }
-        ensures ok { IfOk result (λ count. FeedsOn self.old bytes.now self.new count) }
-        ensures err { OnErr result (self.new ≡ self.old) }
-    {
-        let count = self.session.feed(bytes)?;
-        self.fed += count;
-        Ok(count)
     }
 
     /// Writes the gathered replies where they are enough for a piece.

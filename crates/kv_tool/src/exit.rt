@@ -11,7 +11,7 @@ pub enum Exit {
     ReadFault,
     /// A write failed; a front of the replies was written.
     WriteFault,
-    /// Memory was refused; a front of the replies was written.
+    /// Memory was refused; the replies to the frames that were answered before were written.
     NoMemory,
     /// More than 268,435,456 bytes came; the replies to the whole frames among the first so many were written.
     TooLong,

@@ -15,7 +15,7 @@
 //! | BadFrame | no frame begins behind the last one; the place in the input | 9 |
 //! | Cut | the input ended within a frame; how many bytes of it came | 10 |
 //!
-//! At WriteFault and NoMemory a front of the replies is written, at every other exit all replies to whole frames.
+//! At WriteFault a front of the replies is written, at every other exit all replies to the frames that were answered.
 #![tactic(auto)]
 
 mod connection;
@@ -27,6 +27,7 @@ mod piping;
 mod tests;
 
 pub use exit::Exit;
-pub use laws::{input_limit, same_output};
+pub use kv_session::VERSION_TEXT;
+pub use laws::{input_limit, same_output, same_replies};
 pub use offline::run_offline;
 pub use piping::INPUT_LIMIT;

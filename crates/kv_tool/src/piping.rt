@@ -40,7 +40,7 @@ pub(crate) fn pipe<S: Source, K: Sink>(
         match read_piece(source, &mut buffer, room) {
             Taken::Got(count) => {
                 let (piece, _) = buffer.split_at(count);
-                match connection.serve(sink, piece, now) {
+                match connection.take_piece(sink, piece, now) {
                     None => {}
                     Some(exit) => return exit,
                 }

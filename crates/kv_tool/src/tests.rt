@@ -1,6 +1,9 @@
+ghost use Rattle.std.specs.Prelude.{None, true};
+
 use crate::{Exit, run_offline};
-use kv_edge::{Bytes, MemClock, MemSink, MemSource};
+use kv_edge::{Bytes, Clock, MemClock, MemSink, MemSource, Put, Sink, Source, Taken};
 use std::alloc::Global;
+use std::cell::Cell;
 use std::process::Abort;
 use std::test::Fail;
 
@@ -60,6 +63,16 @@ const GETQ: &str = "80 09 0001 00 00 0000 00000001 00000008 0000000000000000 61"
 const NOOP: &str = "80 0a 0000 00 00 0000 00000000 00000009 0000000000000000";
 
 const NOTHING_DONE: &str = "81 0a 0000 00 00 0000 00000000 00000009 0000000000000000";
+
+// A Noop with the opaque 0, whose reply has as many bytes.
+const PLAIN_NOOP: [u8; 24] = [
+    0x80, 0x0a, 0, 0, 0, 0, 0, 0, 0, 0, 0, 0, 0, 0, 0, 0, 0, 0, 0, 0, 0, 0, 0, 0,
+];
+
+// A Quit with the opaque 5.
+const QUIT: [u8; 24] = [
+    0x80, 0x07, 0, 0, 0, 0, 0, 0, 0, 0, 0, 0, 0, 0, 0, 5, 0, 0, 0, 0, 0, 0, 0, 0,
+];
 
 const QUIT_AND_GET: &str = "\
     80 07 0000 00 00 0000 00000000 00000005 0000000000000000 \
@@ -121,23 +134,10 @@ const KEY_OVER_BODY: &str = "80 00 0002 00 00 0000 00000001 00000000 00000000000
 
 const BODY_OVER_LIMIT: &str = "80 00 0002 00 00 0000 01600001 00000000 0000000000000000";
 
-// Adds the bytes of hexadecimal digits. Blanks between them are for reading.
-fn add_hex(bytes: &mut Vec<u8>, text: &str) -> Result<(), Fail> {
-    let mut high = None;
-    for digit in text.bytes() {
-        let digit = match digit {
-            b'0'..=b'9' => digit - b'0',
-            b'a'..=b'f' => digit - b'a' + 10,
-            _ => continue,
-        };
-        match high {
-            None => high = Some(digit << 4),
-            Some(above) => {
-                bytes.push(above | digit)?;
-                high = None;
-            }
-        }
-    }
+// Adds the bytes of a row of hexadecimal digits.
+fn add_row(alloc: Global, bytes: &mut Vec<u8>, row: &str) -> Result<(), Fail> {
+    let more = hex_rows::bytes_of(alloc, row)?;
+    bytes.extend_from_slice(&more)?;
     Ok(())
 }
 
@@ -145,7 +145,7 @@ fn add_hex(bytes: &mut Vec<u8>, text: &str) -> Result<(), Fail> {
 fn bytes_of(alloc: Global, texts: &[&str]) -> Result<Vec<u8>, Fail> {
     let mut bytes = Vec::new(alloc);
     for text in texts {
-        add_hex(&mut bytes, text)?;
+        add_row(alloc, &mut bytes, text)?;
     }
     Ok(bytes)
 }
@@ -235,9 +235,9 @@ fn features_and_levels_are_answered(rt: HostRuntime) -> Result<(), Fail> {
     Ok(())
 }
 
-// Adds the bytes of hexadecimal digits and of a text.
-fn add(bytes: &mut Vec<u8>, digits: &str, text: &str) -> Result<(), Fail> {
-    add_hex(bytes, digits)?;
+// Adds the bytes of a row and of a text.
+fn add(alloc: Global, bytes: &mut Vec<u8>, row: &str, text: &str) -> Result<(), Fail> {
+    add_row(alloc, bytes, row)?;
     bytes.extend_from_slice(text.as_bytes())?;
     Ok(())
 }
@@ -315,13 +315,13 @@ const MANIFEST_TURNS: [(&str, &str, &str); 13] = [
 fn manifests_decide_which_collections_there_are(rt: HostRuntime) -> Result<(), Fail> {
     let alloc = rt.alloc();
     let (mut input, mut output) = (Vec::new(alloc), Vec::new(alloc));
-    add_hex(&mut input, HELLO_COLLECTIONS)?;
-    add_hex(&mut output, GRANTED_COLLECTIONS)?;
+    add_row(alloc, &mut input, HELLO_COLLECTIONS)?;
+    add_row(alloc, &mut output, GRANTED_COLLECTIONS)?;
     for (header, text, reply) in MANIFEST_TURNS {
-        add(&mut input, header, text)?;
-        add_hex(&mut output, reply)?;
+        add(alloc, &mut input, header, text)?;
+        add_row(alloc, &mut output, reply)?;
     }
-    add(&mut output, "", LATER)?;
+    add(alloc, &mut output, "", LATER)?;
     let (exit, sink) = run(alloc, &["pipe"], input, WHOLE)?;
     assert_eq!(rt; exit, Exit::Done);
     assert_eq!(rt; sink.bytes(), output.as_slice());
@@ -362,16 +362,138 @@ fn a_key_has_at_most_250_bytes(rt: HostRuntime) -> Result<(), Fail> {
         ),
     ] {
         let mut input = Vec::new(alloc);
-        add_hex(&mut input, front)?;
+        add_row(alloc, &mut input, front)?;
         for _ in 0..length {
             input.push(b'k')?;
         }
         let mut output = Vec::new(alloc);
-        add_hex(&mut output, reply)?;
+        add_row(alloc, &mut output, reply)?;
         let (exit, sink) = run(alloc, &["pipe"], input, WHOLE)?;
         assert_eq!(rt; exit, Exit::Done);
         assert_eq!(rt; sink.bytes(), output.as_slice());
     }
+    Ok(())
+}
+
+// A source that gives the frame of a Quit at each call, and counts the calls.
+#[derive(Drop)]
+struct Quitting {
+    calls: u64,
+}
+
+impl Source for Quitting {
+    ghost left = { λ _. None };
+
+    ghost faults = { λ _. 0 };
+
+    fn read(&mut self, buf: &mut [u8]) -> Taken {
+        self.calls = self.calls.saturating_add(1);
+        if buf.is_empty() {
+            return Taken::Got(0);
+        }
+        if buf.len() < QUIT.len() {
+            return Taken::End;
+        }
+        let (front, _) = buf.split_at_mut(QUIT.len());
+        front.copy_from_slice(&QUIT);
+        Taken::Got(QUIT.len())
+    }
+}
+
+// A clock that answers how often it was asked.
+#[derive(Drop)]
+struct Counting {
+    calls: u64,
+}
+
+impl Clock for Counting {
+    ghost told = { λ _. None };
+
+    ghost may_answer = { λ _ _. true };
+
+    fn now(&mut self) -> u64 {
+        self.calls = self.calls.saturating_add(1);
+        self.calls
+    }
+}
+
+#[test]
+fn the_clock_is_read_once_and_nothing_behind_a_quit(rt: HostRuntime) -> Result<(), Fail> {
+    let alloc = rt.alloc();
+    let words = words_of(alloc, &["pipe"])?;
+    let mut source = Quitting { calls: 0 };
+    let mut sink = MemSink::new(alloc, 1 << 20, Vec::new(alloc));
+    let mut clock = Counting { calls: 0 };
+    let exit = run_offline(alloc, &words, &mut source, &mut sink, &mut clock);
+    let output = bytes_of(alloc, &[HAS_QUIT])?;
+    assert_eq!(rt; exit, Exit::Done);
+    assert_eq!(rt; sink.bytes(), output.as_slice());
+    assert_eq!(rt; (source.calls, clock.calls), (1, 1));
+    Ok(())
+}
+
+// A source of three Noops, one a call. It notes where it is asked for more before all replies so far were written.
+#[derive(Drop)]
+struct Asking<'a> {
+    written: &'a Cell<usize>,
+    answers: usize,
+    early: bool,
+}
+
+impl Source for Asking<'_> {
+    ghost left = { λ _. None };
+
+    ghost faults = { λ _. 0 };
+
+    fn read(&mut self, buf: &mut [u8]) -> Taken {
+        if self.written.get() < self.answers {
+            self.early = true;
+        }
+        if buf.is_empty() {
+            return Taken::Got(0);
+        }
+        if buf.len() < PLAIN_NOOP.len() || self.answers >= 3 * PLAIN_NOOP.len() {
+            return Taken::End;
+        }
+        let (front, _) = buf.split_at_mut(PLAIN_NOOP.len());
+        front.copy_from_slice(&PLAIN_NOOP);
+        self.answers += PLAIN_NOOP.len();
+        Taken::Got(PLAIN_NOOP.len())
+    }
+}
+
+// A sink that tells how many bytes were written.
+#[derive(Drop)]
+struct Telling<'a> {
+    written: &'a Cell<usize>,
+}
+
+impl Sink for Telling<'_> {
+    ghost written = { λ _. None };
+
+    ghost faults = { λ _. 0 };
+
+    fn write(&mut self, piece: &[u8]) -> Put {
+        let before = self.written.get();
+        self.written.set(before.saturating_add(piece.len()));
+        Put::Wrote(piece.len())
+    }
+}
+
+#[test]
+fn replies_are_written_before_more_is_asked_for(rt: HostRuntime) -> Result<(), Fail> {
+    let alloc = rt.alloc();
+    let words = words_of(alloc, &["pipe"])?;
+    let written = Cell::new(0);
+    let mut source = Asking {
+        written: &written,
+        answers: 0,
+        early: false,
+    };
+    let mut sink = Telling { written: &written };
+    let exit = run_offline(alloc, &words, &mut source, &mut sink, &mut MemClock::new(0));
+    assert_eq!(rt; exit, Exit::Done);
+    assert_eq!(rt; (source.early, written.get()), (false, 72));
     Ok(())
 }
 

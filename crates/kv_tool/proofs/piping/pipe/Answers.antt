@@ -50,7 +50,7 @@ returns-in-Some g c =
       reads_counted = omega (arith, c.in-Got.ensures.counted, c.loop-buffer.invariant.reads_counted);
       writes_counted = omega (arith, c.in-Some.ensures.counted, c.loop-buffer.invariant.writes_counted);
       read_cause = λ e. absurd (served.2 e);
-      write_cause = λ e. then_rose (g.K.Sink.faults c.args.sink.now) (g.K.Sink.faults c.loop-buffer.sink) (g.K.Sink.faults c.serve.new.sink) c.loop-buffer.invariant.writes_counted (c.in-Some.ensures.cause (ap Some e));
+      write_cause = λ e. then_rose (g.K.Sink.faults c.args.sink.now) (g.K.Sink.faults c.loop-buffer.sink) (g.K.Sink.faults c.take_piece.new.sink) c.loop-buffer.invariant.writes_counted (c.in-Some.ensures.cause (ap Some e));
     }
 
 pub returns-in-End-clause-outcome : goal.returns-in-End-clause-outcome

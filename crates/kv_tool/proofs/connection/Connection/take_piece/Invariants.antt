@@ -1,11 +1,11 @@
-use Rattle.std.proofs.Common.{◌≡◌, ◌+◌, ◌-◌, ◌*◌, ◌≤◌, length, drop}
+use Rattle.std.proofs.Common.{◌≡◌, ◌+◌, ◌-◌, ◌≤◌, length, drop}
 use Rattle.kv_tool.specs.Outcomes.{Seen}
 use Rattle.kv_tool.specs.Progress.{Progress}
-use Rattle.kv_tool.proofs.connection.Connection.serve.Given as goal
+use Rattle.kv_tool.proofs.connection.Connection.take_piece.Given as goal
 
 -- the bytes before `at` are fed, and no fault was forgotten
-abbrev pub invariant-loop-self : goal.invariant-loop-self
-invariant-loop-self g l = record {
+abbrev pub invariant-loop-count : goal.invariant-loop-count
+invariant-loop-count g l = record {
   progress : (seen : Seen) → Progress l.now (record seen { written_now = g.K.Sink.written l.fn.sink }) l.piece l.fn.self → Progress l.now (record seen { written_now = g.K.Sink.written l.sink }) (drop l.at l.piece) l.self;
   within : l.at ≤ length l.piece;
   held : length l.self.session.held ≤ l.self.fed;
@@ -13,6 +13,6 @@ invariant-loop-self g l = record {
   counted : g.K.Sink.faults l.fn.sink ≤ g.K.Sink.faults l.sink;
 }
 
--- what is left of the piece and of the frames held
-abbrev pub decreases-loop-self : goal.decreases-loop-self
-decreases-loop-self g l = 2 * (length l.piece - l.at) + length l.self.session.held
+-- what is left of the piece, and what is held
+abbrev pub decreases-loop-count : goal.decreases-loop-count
+decreases-loop-count g l = length l.piece - l.at + length l.self.session.held
