@@ -1,0 +1,4 @@
+pub mod Spots
+pub mod Pieces
+pub mod Looks
+pub mod Once

@@ -1,0 +1,113 @@
+//! Look-ups.
+
+ghost use Rattle.std.specs.Prelude.{◌≡◌, ℕ, List, Result, IsSome, IfOk, Err};
+ghost use Rattle.doc_model.specs.declared.status.Status.{Status};
+ghost use Rattle.json_model.specs.declared.asked.Lookup.{Lookup};
+ghost use Rattle.json_model.specs.Order.{Looks};
+ghost use Rattle.json_model.specs.Edit.{lookup_of};
+ghost use Rattle.json_model.specs.Spelled.{Tree, Fits};
+ghost use Rattle.json_spell.specs.declared.node.Span.{Span};
+ghost use Rattle.subdoc_path.specs.Standing.{Stands, IsStanding};
+ghost use Rattle.subdoc_edit.specs.Looking.{TellsLooked, TellsLook, Finds, RefusesLook};
+
+use crate::kinds::holds_others;
+use crate::reading::{path_of, spans_of};
+use doc_model::{Refused, Status};
+use json_model::Lookup;
+use json_spell::{Node, nodes};
+use std::alloc::Global;
+use subdoc_path::{Found, find};
+
+/// What a look-up found in a text.
+#[derive(Clone, Copy, Debug, PartialEq, Eq)]
+pub struct Piece {
+    /// The place of the first byte of what was found.
+    pub from: usize,
+    /// The place behind its last byte.
+    pub to: usize,
+    /// The number of members or elements, where that was asked: its decimal text is the answer then.
+    pub count: Option<u64>,
+}
+
+/// The look-up that an opcode stands for.
+fn lookup_of(opcode: u8) -> Option<Lookup>
+    ensures { result ≡ lookup_of opcode }
+{
+    match opcode {
+        0xc5 => Some(Lookup::Get),
+        0xc6 => Some(Lookup::Exists),
+        0xd2 => Some(Lookup::GetCount),
+        _ => None,
+    }
+}
+
+/// What a look-up finds in the value at this place in the list.
+fn looked(lookup: Lookup, text: &[u8], nodes: &[Node], at: usize) -> Result<Piece, Refused>
+    requires { IsStanding text.now nodes.now at }
+    ensures { (place : ℕ) (key : Span) (t : Tree) → Stands text.now nodes.now place at key t → Fits t → TellsLooked lookup text.now t result }
+{
+    let node = match nodes.get(at) {
+        Some(node) => *node,
+        None => return Err(Refused::NoMemory),
+    };
+    match lookup {
+        Lookup::Get => Ok(Piece {
+            from: node.from,
+            to: node.to,
+            count: None,
+        }),
+        Lookup::Exists => Ok(Piece {
+            from: node.from,
+            to: node.from,
+            count: None,
+        }),
+        Lookup::GetCount => {
+            if !holds_others(node.kind) {
+                return Err(Refused::Status(Status::PATH_MISMATCH));
+            }
+            Ok(Piece {
+                from: node.from,
+                to: node.from,
+                count: Some(node.children as u64),
+            })
+        }
+    }
+}
+
+/// Looks at a path.
+fn look_at(alloc: Global, lookup: Lookup, text: &[u8], path: &[u8]) -> Result<Piece, Refused>
+    ensures { TellsLook lookup text.now path.now result }
+{
+    let path = path_of(alloc, path)?;
+    let spans = spans_of(alloc, text)?;
+    match find(text, &spans, &path) {
+        Found::At(at) => looked(lookup, text, nodes(&spans), at),
+        Found::Missing(_) => Err(Refused::Status(Status::PATH_ENOENT)),
+        Found::Mismatch(_) => Err(Refused::Status(Status::PATH_MISMATCH)),
+    }
+}
+
+/// Looks at a path of a JSON text: `opcode` is that of sub-document Get, Exists or GetCount. Of Get
+/// the piece is the value's text without the blanks round it, of Exists it has no bytes, and of
+/// GetCount it has the number of members or elements.
+///
+/// It is refused with the first of these that applies: 00c2 and 00c3 where the path isn't one, 00c6
+/// where the text isn't JSON, 00c4 where it nests deeper than 32, 00c1 where the path meets another
+/// kind of value than it asks for or a number of parts is asked of a value without any, and 00c0
+/// where it leads nowhere.
+pub fn look(alloc: Global, opcode: u8, text: &[u8], path: &[u8]) -> Result<Piece, Refused>
+    requires { IsSome (lookup_of opcode) }
+    ensures found { IfOk result (λ piece. Finds opcode text.now path.now piece) }
+    ensures refused { (s : Status) → result ≡ Err (Refused.Status s) → RefusesLook opcode text.now path.now s }
+{
+    match lookup_of(opcode) {
+        Some(lookup) => look_at(alloc, lookup, text, path),
+        None => Err(Refused::NoMemory),
+    }
+}
+
+/// A look-up has one answer.
+pub fn one_answer()
+    ensures { (lookup : Lookup) (text path : List ℕ) (x y : Result (List ℕ) Status)
+        → Looks lookup text path x → Looks lookup text path y → x ≡ y }
+{}

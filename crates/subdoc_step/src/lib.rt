@@ -1,0 +1,12 @@
+//! What a look-up and an edit of a JSON text come to, as functions: for each text, path and value
+//! there is one answer.
+//!
+//! The definitions of JSON, paths and edits are relations (`json_model`). What a document becomes
+//! has to be one thing, so the layers above speak of functions: `looked_up` and `edited` of
+//! `specs/Answers.antt`. The laws here say that their answers are those of the relations, and that
+//! the relations have no others.
+#![tactic(auto)]
+
+mod laws;
+
+pub use laws::{edits_have_one_answer, look_ups_have_one_answer};
