@@ -8,8 +8,8 @@ use Rattle.json_model.specs.declared.asked.Edit.{Edit}
 use Rattle.json_model.specs.Spelled.{Tree, Document}
 use Rattle.json_model.specs.Edit.{Asked, act_at, look_at}
 use Rattle.json_model.specs.Order.{takes, Edited, done_to, shallow, EditedText, within_document, small}
-use Rattle.json_spell.specs.Told.{read_text}
-use Rattle.subdoc_path.specs.Answers.{read_parts, followed}
+use Rattle.subdoc_step.specs.Texts.{read_text}
+use Rattle.subdoc_step.specs.Paths.{read_parts, followed}
 use Rattle.subdoc_step.specs.Given.{given}
 
 infixl 10 ◌>>=◌

@@ -1,1 +1,4 @@
+pub mod Texts
+pub mod Paths
+pub mod Given
 pub mod Answers

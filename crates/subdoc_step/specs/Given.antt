@@ -1,0 +1,1 @@
+-- What comes with an edit, or why it is refused.

@@ -1,0 +1,1 @@
+-- The parts that a path has, and where they lead in a tree.
