@@ -1,4 +1,5 @@
 pub mod Opcodes
+pub mod Parts
 pub mod Tables
 pub mod Reading
 pub mod Viewing

@@ -1,12 +1,15 @@
 -- The table of opcodes, and the form of each command's request.
 use Rattle.std.specs.Prelude.{ℕ, nat_eq, nat_le, Bool, true, false, ◌&&◌, find, is_some, List, [], ◌∷◌, ◌++◌, Option}
-use Rattle.std.specs.Option.{option_map, option_map_or}
+use Rattle.std.specs.Option.{option_map, option_map_or, option_or}
 use Rattle.doc_model.specs.declared.status.Status.{Status}
 use Rattle.doc_model.specs.declared.status.TheConstants.Status as status
+use Rattle.json_model.specs.Edit.{lookup_of, edit_of}
+use Rattle.json_model.specs.declared.asked.Lookup.TheVariants as lookups
+use Rattle.json_model.specs.declared.asked.Edit.TheVariants as edits
 use Rattle.kv_request.specs.declared.opcode.Command.{Command}
 use Rattle.kv_request.specs.declared.opcode.Command.TheVariants as commands
 
--- each opcode that is served, but for the quiet ones, with what it asks for
+-- each opcode that is served, but for the quiet ones and those on parts of documents, with what it asks for
 abbrev pub opcodes : List (ℕ × Command)
 opcodes =
     (0x00, commands.Get)
@@ -54,9 +57,13 @@ command_in rows opcode = option_map (λ row. row.1) (find (λ row. nat_eq opcode
 abbrev pub is_quiet : ℕ → Bool
 is_quiet opcode = is_some (command_in quiet_opcodes opcode)
 
+-- what an opcode asks of a part of a document: a look-up or an edit at a path
+abbrev pub part_command : ℕ → Option Command
+part_command opcode = option_or (option_map commands.Look (lookup_of opcode)) (option_map commands.Edit (edit_of opcode))
+
 -- what an opcode asks for, loud or quiet
 abbrev pub command_of : ℕ → Option Command
-command_of opcode = command_in (opcodes ++ quiet_opcodes) opcode
+command_of opcode = option_or (command_in (opcodes ++ quiet_opcodes) opcode) (part_command opcode)
 
 -- the opcodes of streams between nodes, none of which is served
 abbrev pub is_of_streams : ℕ → Bool
@@ -78,34 +85,36 @@ pub data Presence : Type 0 where
   MustNot : Presence
   May : Presence
 
--- the form of a request: how many bytes its extras have, and whether a key and a value are there
+-- the form of a request: how many bytes its extras may have, and whether a key and a value are there
 pub record Form : Type 0 where
-  pub extras : ℕ
+  pub extras : List ℕ
   pub key : Presence
   pub value : Presence
 
 -- the form of each command's request
 abbrev pub form_of : Command → Form
-form_of commands.Get = record { extras = 0; key = Must; value = MustNot }
-form_of commands.GetKey = record { extras = 0; key = Must; value = MustNot }
-form_of commands.Set = record { extras = 8; key = Must; value = May }
-form_of commands.Add = record { extras = 8; key = Must; value = May }
-form_of commands.Replace = record { extras = 8; key = Must; value = May }
-form_of commands.Delete = record { extras = 0; key = Must; value = MustNot }
-form_of commands.Increment = record { extras = 20; key = Must; value = MustNot }
-form_of commands.Decrement = record { extras = 20; key = Must; value = MustNot }
-form_of commands.Append = record { extras = 0; key = Must; value = May }
-form_of commands.Prepend = record { extras = 0; key = Must; value = May }
-form_of commands.Touch = record { extras = 4; key = Must; value = MustNot }
-form_of commands.GetAndTouch = record { extras = 4; key = Must; value = MustNot }
-form_of commands.Quit = record { extras = 0; key = MustNot; value = MustNot }
-form_of commands.Noop = record { extras = 0; key = MustNot; value = MustNot }
-form_of commands.Version = record { extras = 0; key = MustNot; value = MustNot }
-form_of commands.Hello = record { extras = 0; key = May; value = May }
-form_of commands.SetManifest = record { extras = 0; key = MustNot; value = Must }
-form_of commands.GetManifest = record { extras = 0; key = MustNot; value = MustNot }
-form_of commands.CollectionId = record { extras = 0; key = May; value = May }
-form_of commands.ScopeId = record { extras = 0; key = May; value = May }
+form_of commands.Get = record { extras = 0 ∷ []; key = Must; value = MustNot }
+form_of commands.GetKey = record { extras = 0 ∷ []; key = Must; value = MustNot }
+form_of commands.Set = record { extras = 8 ∷ []; key = Must; value = May }
+form_of commands.Add = record { extras = 8 ∷ []; key = Must; value = May }
+form_of commands.Replace = record { extras = 8 ∷ []; key = Must; value = May }
+form_of commands.Delete = record { extras = 0 ∷ []; key = Must; value = MustNot }
+form_of commands.Increment = record { extras = 20 ∷ []; key = Must; value = MustNot }
+form_of commands.Decrement = record { extras = 20 ∷ []; key = Must; value = MustNot }
+form_of commands.Append = record { extras = 0 ∷ []; key = Must; value = May }
+form_of commands.Prepend = record { extras = 0 ∷ []; key = Must; value = May }
+form_of commands.Touch = record { extras = 4 ∷ []; key = Must; value = MustNot }
+form_of commands.GetAndTouch = record { extras = 4 ∷ []; key = Must; value = MustNot }
+form_of commands.Quit = record { extras = 0 ∷ []; key = MustNot; value = MustNot }
+form_of commands.Noop = record { extras = 0 ∷ []; key = MustNot; value = MustNot }
+form_of commands.Version = record { extras = 0 ∷ []; key = MustNot; value = MustNot }
+form_of commands.Hello = record { extras = 0 ∷ []; key = May; value = May }
+form_of commands.SetManifest = record { extras = 0 ∷ []; key = MustNot; value = Must }
+form_of commands.GetManifest = record { extras = 0 ∷ []; key = MustNot; value = MustNot }
+form_of commands.CollectionId = record { extras = 0 ∷ []; key = May; value = May }
+form_of commands.ScopeId = record { extras = 0 ∷ []; key = May; value = May }
+form_of (commands.Look lookup) = record { extras = 3 ∷ 4 ∷ []; key = Must; value = May }
+form_of (commands.Edit edit) = record { extras = 3 ∷ 4 ∷ 7 ∷ 8 ∷ []; key = Must; value = May }
 
 -- whether the key is a document's
 abbrev pub names_document : Command → Bool
@@ -134,4 +143,29 @@ takes_level commands.Increment = true
 takes_level commands.Decrement = true
 takes_level commands.Append = true
 takes_level commands.Prepend = true
+takes_level (commands.Edit edit) = true
 takes_level command = false
+
+-- whether a value may come behind the path of a command on a part of a document
+abbrev pub takes_value : Command → Bool
+takes_value (commands.Look lookup) = false
+takes_value (commands.Edit edits.Delete) = false
+takes_value command = true
+
+-- whether a command on a part of a document may make several parts that are absent
+abbrev pub may_make_parents : Command → Bool
+may_make_parents (commands.Edit edits.DictAdd) = true
+may_make_parents (commands.Edit edits.DictUpsert) = true
+may_make_parents (commands.Edit edits.ArrayPushLast) = true
+may_make_parents (commands.Edit edits.ArrayPushFirst) = true
+may_make_parents (commands.Edit edits.ArrayAddUnique) = true
+may_make_parents (commands.Edit edits.Counter) = true
+may_make_parents command = false
+
+-- whether a command on a part of a document takes the whole of it, by the path of no bytes
+abbrev pub takes_whole : Command → Bool
+takes_whole (commands.Look lookups.GetCount) = true
+takes_whole (commands.Edit edits.ArrayPushLast) = true
+takes_whole (commands.Edit edits.ArrayPushFirst) = true
+takes_whole (commands.Edit edits.ArrayAddUnique) = true
+takes_whole command = false

@@ -1,5 +1,6 @@
 -- The request that a frame is, or the status of the first check that it fails, and the frame that a reply is.
 use Rattle.std.specs.Prelude.{◌≡◌, ℕ, ◌+◌, ◌*◌, ◌%◌, ◌^◌, ◌<◌, ◌≤◌, nat_eq, nat_le, Bool, true, false, ◌&&◌, ◌||◌, not, is_some, unwrap_or, option_and_then, find, count_by, slice_index, List, [], ◌∷◌, ◌++◌, length, take, drop, Option, Some, None, Result, Ok, Err, if◌then◌else◌}
+use Rattle.std.specs.List.{list_any}
 use Rattle.std.specs.Option.{option_map_or, IfSome}
 use Rattle.std.specs.Int.{w16, w32, w64, from_be_bytes, to_be_bytes}
 use Rattle.kv_frame.specs.declared.frame.Frame.{Frame}
@@ -22,6 +23,7 @@ use Rattle.kv_request.specs.declared.request.Mode.{Mode}
 use Rattle.kv_request.specs.declared.request.Mode.TheVariants as modes
 use Rattle.kv_request.specs.declared.reply.Reply.{Reply}
 use Rattle.kv_request.specs.Opcodes.{command_of, is_of_streams, is_unsent, Presence, Must, MustNot, May, form_of, names_document, takes_level}
+use Rattle.kv_request.specs.Parts.{spec_of, given_expiry, doc_flags, body_checks}
 
 -- whether a part of this many bytes is there as it has to be
 abbrev pub is_present : Presence → ℕ → Bool
@@ -32,7 +34,7 @@ is_present May size = true
 -- whether extras, key and value are there as the command asks
 abbrev pub has_form : Frame → Command → Bool
 has_form frame command =
-    nat_eq (length frame.extras) (form_of command).extras
+    list_any (nat_eq (length frame.extras)) (form_of command).extras
     && is_present (form_of command).key (length frame.key)
     && is_present (form_of command).value (length frame.value)
 
@@ -139,7 +141,7 @@ checks features frame command =
     ∷ (is_key features command frame.key, status.EINVAL)
     ∷ (nat_le (length frame.value) (value_limit command), status.E2BIG)
     ∷ (is_cas_taken command frame.cas, status.EINVAL)
-    ∷ []
+    ∷ body_checks frame command
 
 -- the status of the first check that fails
 abbrev pub first_failing : List (Bool × Status) → Option Status
@@ -202,6 +204,8 @@ body_with key frame commands.SetManifest = bodies.SetManifest frame.value
 body_with key frame commands.GetManifest = bodies.GetManifest
 body_with key frame commands.CollectionId = bodies.CollectionId (path_of frame)
 body_with key frame commands.ScopeId = bodies.ScopeId (path_of frame)
+body_with key frame (commands.Look lookup) = bodies.Look key (spec_of frame)
+body_with key frame (commands.Edit edit) = bodies.Edit key (spec_of frame) (given_expiry frame.extras) (doc_flags frame.extras)
 
 -- what the request of a frame asks for
 abbrev pub body_of : Features → Frame → Command → Body
@@ -319,6 +323,8 @@ key_named (bodies.Delete key) = Some key
 key_named (bodies.Count key up delta initial expiry) = Some key
 key_named (bodies.Join key front value) = Some key
 key_named (bodies.Touch key expiry fetch) = Some key
+key_named (bodies.Look key spec) = Some key
+key_named (bodies.Edit key spec expiry flags) = Some key
 
 -- the document's key that a request names, and an empty one where it names none
 abbrev pub document_key : Body → DocKey
@@ -340,6 +346,8 @@ value_brought (bodies.Delete key) = []
 value_brought (bodies.Count key up delta initial expiry) = []
 value_brought (bodies.Join key front value) = value
 value_brought (bodies.Touch key expiry fetch) = []
+value_brought (bodies.Look key spec) = spec.path ++ spec.value
+value_brought (bodies.Edit key spec expiry flags) = spec.path ++ spec.value
 
 -- whether a session answers a request by itself, since it asks nothing of a vbucket
 abbrev pub is_for_session : Body → Bool

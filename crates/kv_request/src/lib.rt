@@ -44,6 +44,7 @@
 
 mod laws;
 pub mod opcode;
+mod parts;
 mod reading;
 mod reply;
 mod request;
@@ -51,12 +52,15 @@ mod writing;
 
 pub use laws::{keys_as_spelled, request_numbers, requests_are_small, small_replies};
 pub use opcode::Command;
+pub use parts::{
+    ADDS_DOCUMENT, EXPANDS_MACROS, IS_XATTR, MAKES_DOCUMENT, MAKES_PARENTS,
+};
 pub use reading::{
     DURABILITY, KEY_LIMIT, MANIFEST_LIMIT, OTHER_KEY_LIMIT, USUAL_TIMEOUT, VALUE_LIMIT,
     read_request, read_view,
 };
 pub use reply::{Reply, refusal};
-pub use request::{Body, Durability, Features, Mode, Request};
+pub use request::{Body, Durability, Features, Mode, Request, Spec};
 pub use writing::{reply_into, write_reply};
 
 #[cfg(test)]

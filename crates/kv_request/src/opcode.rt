@@ -2,6 +2,7 @@ ghost use Rattle.std.specs.Prelude.{◌≡◌};
 ghost use Rattle.kv_request.specs.Opcodes.{is_quiet, is_unsent};
 
 use doc_model::Status;
+use json_model::{Edit, Lookup};
 
 /// Get: what a key has.
 pub const GET: u8 = 0x00;
@@ -125,6 +126,10 @@ pub enum Command {
     GetManifest,
     CollectionId,
     ScopeId,
+    /// A look at a part of a document.
+    Look(Lookup),
+    /// An edit of a part of a document.
+    Edit(Edit),
 }
 
 impl Command {

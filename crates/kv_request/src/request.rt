@@ -32,6 +32,19 @@ pub enum Mode {
     Replace,
 }
 
+/// A path into a document, what is asked there, and what comes with it.
+#[derive(Debug, PartialEq, Eq, Drop)]
+pub struct Spec {
+    /// The opcode of a look-up or an edit.
+    pub opcode: u8,
+    /// As the client spelt them: see `MAKES_PARENTS`, `IS_XATTR` and `EXPANDS_MACROS`.
+    pub flags: u8,
+    /// The path's bytes, which may be none or no path.
+    pub path: Bytes,
+    /// What comes with an edit, empty where nothing does.
+    pub value: Bytes,
+}
+
 /// What a request asks for, with what that needs.
 #[derive(Debug, PartialEq, Eq, Drop)]
 pub enum Body {
@@ -82,6 +95,20 @@ pub enum Body {
         key: DocKey,
         expiry: u32,
         fetch: bool,
+    },
+    /// A part of the document of the key, to be looked at.
+    Look {
+        key: DocKey,
+        spec: Spec,
+    },
+    /// A part of the document of the key, to be edited. The document keeps its expiry where none is given.
+    Edit {
+        key: DocKey,
+        spec: Spec,
+        /// As the client spelt it: 0 for none, seconds from now or since 1970.
+        expiry: Option<u32>,
+        /// As the client spelt them: see `MAKES_DOCUMENT` and `ADDS_DOCUMENT`.
+        doc_flags: u8,
     },
     /// A manifest to take the place of the one that is there.
     SetManifest {

@@ -11,12 +11,12 @@ use Rattle.kv_request.specs.declared.request.Body.{Body}
 use Rattle.kv_request.specs.declared.request.Body.TheVariants as bodies
 use Rattle.kv_request.specs.declared.reply.Reply.{Reply}
 use Rattle.kv_request.specs.Tables.{request, refused}
-use Rattle.kv_session.specs.declared.answers.TheConstants.{FEATURE_TOKEN, FEATURE_XATTR, FEATURE_XERROR, FEATURE_FLEX, FEATURE_DURABILITY, FEATURE_COLLECTIONS, VERSION_TEXT}
+use Rattle.kv_session.specs.declared.answers.TheConstants.{FEATURE_TOKEN, FEATURE_XATTR, FEATURE_XERROR, FEATURE_JSON, FEATURE_FLEX, FEATURE_DURABILITY, FEATURE_COLLECTIONS, VERSION_TEXT}
 
 -- whether a feature is granted where it is asked for
 abbrev pub is_granted : ℕ → Bool
 is_granted code =
-    nat_eq code FEATURE_TOKEN || nat_eq code FEATURE_XATTR || nat_eq code FEATURE_XERROR || nat_eq code FEATURE_FLEX || nat_eq code FEATURE_DURABILITY || nat_eq code FEATURE_COLLECTIONS
+    nat_eq code FEATURE_TOKEN || nat_eq code FEATURE_XATTR || nat_eq code FEATURE_XERROR || nat_eq code FEATURE_JSON || nat_eq code FEATURE_FLEX || nat_eq code FEATURE_DURABILITY || nat_eq code FEATURE_COLLECTIONS
 
 -- each number once, where it stands first
 abbrev pub each_once : List ℕ → List ℕ → List ℕ
@@ -29,7 +29,7 @@ granted wanted = each_once [] (filter is_granted wanted)
 
 -- what these features change
 abbrev pub features_of : List ℕ → Features
-features_of codes = record { token = list_any (nat_eq FEATURE_TOKEN) codes; json = false; collections = list_any (nat_eq FEATURE_COLLECTIONS) codes }
+features_of codes = record { token = list_any (nat_eq FEATURE_TOKEN) codes; json = list_any (nat_eq FEATURE_JSON) codes; collections = list_any (nat_eq FEATURE_COLLECTIONS) codes }
 
 -- a reply with this value
 abbrev pub telling : Request → List ℕ → Reply

@@ -23,6 +23,9 @@ pub const FEATURE_XATTR: u16 = 0x0006;
 /// Extended errors. It changes nothing.
 pub const FEATURE_XERROR: u16 = 0x0007;
 
+/// JSON: replies tell by their datatype whether the document that they carry is JSON text.
+pub const FEATURE_JSON: u16 = 0x000b;
+
 /// Flexible framing (alternative requests), which is taken with and without it. It changes nothing.
 pub const FEATURE_FLEX: u16 = 0x0010;
 
@@ -116,6 +119,7 @@ fn is_granted(code: u16) -> bool
         FEATURE_TOKEN
             | FEATURE_XATTR
             | FEATURE_XERROR
+            | FEATURE_JSON
             | FEATURE_FLEX
             | FEATURE_DURABILITY
             | FEATURE_COLLECTIONS
@@ -152,7 +156,7 @@ fn take(codes: &[u16]) -> Features
 {
     Features {
         token: codes.contains(&FEATURE_TOKEN),
-        json: false,
+        json: codes.contains(&FEATURE_JSON),
         collections: codes.contains(&FEATURE_COLLECTIONS),
     }
 }

@@ -6,8 +6,8 @@ ghost use Rattle.kv_session.specs.Session.{Line, new_line};
 ghost use Rattle.kv_session.specs.Cutting.{Event, Runs, IsWhole, IsRead, IsDrained, AsksAll, bytes_taken, given};
 
 use crate::answers::{
-    FEATURE_COLLECTIONS, FEATURE_DURABILITY, FEATURE_FLEX, FEATURE_TOKEN, FEATURE_XATTR,
-    FEATURE_XERROR, VERSION_TEXT,
+    FEATURE_COLLECTIONS, FEATURE_DURABILITY, FEATURE_FLEX, FEATURE_JSON, FEATURE_TOKEN,
+    FEATURE_XATTR, FEATURE_XERROR, VERSION_TEXT,
 };
 use crate::filling::KEPT_LIMIT;
 
@@ -36,6 +36,7 @@ pub fn session_numbers()
     ensures token { FEATURE_TOKEN ≡ 4 }
     ensures xattr { FEATURE_XATTR ≡ 6 }
     ensures xerror { FEATURE_XERROR ≡ 7 }
+    ensures json { FEATURE_JSON ≡ 11 }
     ensures flex { FEATURE_FLEX ≡ 16 }
     ensures durability { FEATURE_DURABILITY ≡ 17 }
     ensures collections { FEATURE_COLLECTIONS ≡ 18 }
