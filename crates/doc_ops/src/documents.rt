@@ -8,6 +8,7 @@ ghost use Rattle.doc_ops.specs.Planning.{setting_of};
 use crate::counter::decimal;
 use crate::expiry::{Setting, expiry_of};
 use doc_model::Doc;
+use json_spell::is_json;
 use kv_edge::{Bytes, Copied, NoMemory};
 use kv_request::VALUE_LIMIT;
 use std::alloc::Global;
@@ -135,9 +136,9 @@ fn kept_xattrs(alloc: Global, doc: Option<&Doc>) -> Result<Bytes, NoMemory>
     }
 }
 
-/// Whether a value is told to be JSON text. None is, as long as none is read as such.
-fn json_of(_value: &[u8]) -> bool
-    ensures { result ≡ json_of _value.now }
+/// Whether a value is JSON text at most 32 deep. It takes no memory, and time as the value has bytes.
+fn json_of(value: &[u8]) -> bool
+    ensures { result ≡ json_of value.now }
 {
-    false
+    is_json(value)
 }

@@ -10,6 +10,7 @@
 mod counter;
 mod documents;
 mod expiry;
+mod parts;
 mod planning;
 mod replies;
 

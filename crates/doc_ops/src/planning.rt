@@ -8,6 +8,7 @@ ghost use Rattle.doc_ops.specs.Planning.{setting_of, mode_refusal};
 use crate::counter::{decimal, moved, number_of};
 use crate::documents::{joined_value, new_counter, stored_doc, touched_doc, with_value};
 use crate::expiry::{Setting, there};
+use crate::parts::{edit_at, look_at};
 use crate::replies::{carrying, changing, storing};
 use doc_model::{Doc, DocKey, Refused, Status};
 use doc_step::{Change, Effect, NO_INITIAL};
@@ -29,6 +30,9 @@ use std::alloc::Global;
 /// - Append and Prepend: NotStored where none is there, E2big where the value would pass its limit;
 /// - Increment and Decrement: KeyEnoent where none is there and the expiry is ffffffff, DeltaBadval
 ///   where the value is no number below 2^64 in 1 to 20 digits;
+/// - a look-up of a part: KeyEnoent where no document is there, else what `subdoc_edit::look` refuses;
+/// - an edit of a part: KeyEnoent where none is there and none is to be made, KeyEexists where one is
+///   there and none may be, else what `subdoc_edit::edit` refuses;
 /// - what asks nothing of documents: UnknownCommand.
 pub fn plan(
     alloc: Global,
@@ -109,6 +113,13 @@ fn plan_operation(
         Body::Touch { key, expiry, fetch } => {
             touch(alloc, setting, request, key, *expiry, *fetch, doc)
         }
+        Body::Look { spec, .. } => look_at(alloc, request, spec, doc),
+        Body::Edit {
+            spec,
+            expiry,
+            doc_flags,
+            ..
+        } => edit_at(alloc, setting, request, spec, *expiry, *doc_flags, doc),
     }
 }
 

@@ -11,6 +11,12 @@ use Rattle.doc_model.specs.declared.document.Doc.{Doc}
 use Rattle.doc_model.specs.declared.status.Status.{Status}
 use Rattle.doc_model.specs.declared.status.TheConstants.Status as status
 use Rattle.kv_request.specs.declared.reading.TheConstants.{KEY_LIMIT, OTHER_KEY_LIMIT, VALUE_LIMIT}
+use Rattle.json_model.specs.declared.asked.Lookup.{Lookup}
+use Rattle.json_model.specs.declared.asked.Edit.{Edit}
+use Rattle.json_model.specs.Edit.{lookup_of, edit_of}
+use Rattle.json_model.specs.Order.{EditedText}
+use Rattle.subdoc_step.specs.Answers.{looked_up, edited}
+use Rattle.kv_request.specs.declared.request.Spec.{Spec}
 use Rattle.kv_request.specs.declared.request.Request.{Request}
 use Rattle.kv_request.specs.declared.request.Body.{Body}
 use Rattle.kv_request.specs.declared.request.Body.TheVariants as bodies
@@ -22,7 +28,7 @@ use Rattle.doc_step.specs.declared.TheConstants.{NO_INITIAL}
 use Rattle.doc_step.specs.declared.Change.{Change}
 use Rattle.doc_step.specs.Expiry.{Setting, there, is_expired}
 use Rattle.doc_step.specs.Counter.{number_of, moved}
-use Rattle.doc_step.specs.Step.{cas_refusal, changing, carrying, storing, with_value, get_step, stored_doc, store_step, delete_step, new_counter, count_step, joined_value, join_step, touched_doc, touched_reply, touch_step, operation, document_step}
+use Rattle.doc_step.specs.Step.{cas_refusal, changing, carrying, storing, with_value, get_step, stored_doc, store_step, delete_step, new_counter, count_step, joined_value, join_step, touched_doc, touched_reply, touch_step, look_answered, look_step, number_text, edit_answered, makes_several, doc_to_edit, edit_made, edit_step, operation, document_step}
 use Rattle.doc_step.specs.Laws.{IsSmallDoc, IsSmallChange, HasSmallInitial}
 use Rattle.doc_step.proofs.Counting.{decimal_short, number_small, moved_small}
 
@@ -48,7 +54,7 @@ carrying_small request key doc r k d = record {
   value = omega (arith, d.value);
 }
 
-changing_small : (request : Request) (cas : ℕ) (value : List ℕ) → IsSmallRequest request → cas < 2 ^ 64 → length value ≤ 8 → IsSmallReply (changing request cas value)
+changing_small : (request : Request) (cas : ℕ) (value : List ℕ) → IsSmallRequest request → cas < 2 ^ 64 → length value ≤ VALUE_LIMIT + 100 → IsSmallReply (changing request cas value)
 changing_small request cas value r h v = record {
   opcode = r.opcode;
   status = omega arith;
@@ -61,7 +67,7 @@ changing_small request cas value r h v = record {
 
 -- ---- operations
 
-storing_small : (request : Request) (doc : Doc) (value : List ℕ) → IsSmallRequest request → IsSmallDoc doc → length value ≤ 8 → IsSmallResult (storing request doc value)
+storing_small : (request : Request) (doc : Doc) (value : List ℕ) → IsSmallRequest request → IsSmallDoc doc → length value ≤ VALUE_LIMIT + 100 → IsSmallResult (storing request doc value)
 storing_small request doc value r d v = record { reply = changing_small request doc.cas value r d.cas v; effect = d }
 
 get_small : (request : Request) (key : DocKey) (doc : Option Doc) → IsSmallRequest request → length key.key ≤ KEY_LIMIT → IfSome doc IsSmallDoc → IsSmallResult (get_step request key doc)
@@ -119,6 +125,34 @@ touch_small s request key expiry fetch (Some doc) r k h d =
     let small : IsSmallDoc (touched_doc s doc expiry) = record { value = d.value; cas = h } in
     record { reply = touched_small fetch request key (touched_doc s doc expiry) r k small; effect = small }
 
+-- ---- parts of documents
+
+looked_small : (request : Request) (lookup : Lookup) (doc : Doc) (path : List ℕ) (found : Result (List ℕ) Status) → IsSmallRequest request → IsSmallDoc doc → looked_up lookup doc.value path ≡ found → IsSmallResult (look_answered request doc found)
+looked_small request lookup doc path (Ok piece) r d e =
+    record { reply = changing_small request doc.cas piece r d.cas (omega (arith, looked_within lookup doc.value path piece e, d.value)); effect = tt }
+looked_small request lookup doc path (Err refusing) r d e = tt
+
+look_small : (request : Request) (spec : Spec) (doc : Option Doc) (lookup : Option Lookup) → IsSmallRequest request → IfSome doc IsSmallDoc → IsSmallResult (option_map_or {U = Result Change Status} (look_step request spec doc) lookup (Err status.UNKNOWN_COMMAND))
+look_small request spec doc None r d = tt
+look_small request spec None (Some lookup) r d = tt
+look_small request spec (Some doc) (Some lookup) r d = looked_small request lookup doc spec.path (looked_up lookup doc.value spec.path) r d refl
+
+edited_small : (s : Setting) (request : Request) (edit : Edit) (several : Bool) (path value : List ℕ) (doc : Doc) (made : Result EditedText Status) → IsSmallRequest request → s.draw < 2 ^ 64
+    → edited edit several doc.value path value ≡ made → IsSmallResult (edit_answered s request doc made)
+edited_small s request edit several path value doc (Ok made) r h e =
+    storing_small request (with_value s doc made.text) (number_text made.number) r
+    (record { value = omega (arith, edited_within edit several doc.value path value made e); cas = h })
+    (omega (arith, number_within edit several doc.value path value made e))
+edited_small s request edit several path value doc (Err refusing) r h e = tt
+
+made_small : (s : Setting) (request : Request) (spec : Spec) (several : Bool) (edit : Edit) (doc : Result Doc Status) → IsSmallRequest request → s.draw < 2 ^ 64 → IsSmallResult (edit_made s request spec several edit doc)
+made_small s request spec several edit (Ok doc) r h = edited_small s request edit several spec.path spec.value doc (edited edit several doc.value spec.path spec.value) r h refl
+made_small s request spec several edit (Err refusing) r h = tt
+
+edit_small : (s : Setting) (request : Request) (spec : Spec) (expiry : Option ℕ) (flags : ℕ) (doc : Option Doc) (edit : Option Edit) → IsSmallRequest request → s.draw < 2 ^ 64 → IsSmallResult (option_map_or {U = Result Change Status} (edit_step s request spec expiry flags doc) edit (Err status.UNKNOWN_COMMAND))
+edit_small s request spec expiry flags doc None r h = tt
+edit_small s request spec expiry flags doc (Some edit) r h = made_small s request spec (makes_several spec flags) edit (doc_to_edit s expiry flags spec.path doc) r h
+
 -- ---- requests
 
 -- what the operation of a request takes of it
@@ -150,6 +184,8 @@ operation_small s request (bodies.Delete key) doc h r b d = delete_small s reque
 operation_small s request (bodies.Count key up delta initial expiry) doc h r b d = count_small s request up delta initial expiry doc r h b.initial
 operation_small s request (bodies.Join key front value) doc h r b d = join_small s request front value doc r h
 operation_small s request (bodies.Touch key expiry fetch) doc h r b d = touch_small s request key expiry fetch doc r (name_short key b.key) h d
+operation_small s request (bodies.Look key spec) doc h r b d = look_small request spec doc (lookup_of spec.opcode) r d
+operation_small s request (bodies.Edit key spec expiry flags) doc h r b d = edit_small s request spec expiry flags doc (edit_of spec.opcode) r h
 
 unless_refused : (refusing : Option Status) (result : Result Change Status) → IsSmallResult result → IsSmallResult (option_map_or {U = Result Change Status} (λ s. Err s) refusing result)
 unless_refused None result h = h

@@ -13,6 +13,12 @@ use Rattle.doc_model.specs.declared.status.Status.{Status}
 use Rattle.doc_model.specs.declared.status.TheConstants.Status as status
 use Rattle.doc_model.specs.Keys.{key_cmp}
 use Rattle.kv_request.specs.declared.reading.TheConstants.{VALUE_LIMIT}
+use Rattle.json_model.specs.declared.asked.Lookup.{Lookup}
+use Rattle.json_model.specs.declared.asked.Edit.{Edit}
+use Rattle.json_model.specs.Edit.{lookup_of, edit_of}
+use Rattle.json_model.specs.Order.{EditedText}
+use Rattle.subdoc_step.specs.Answers.{looked_up, edited}
+use Rattle.kv_request.specs.declared.request.Spec.{Spec}
 use Rattle.kv_request.specs.declared.request.Request.{Request}
 use Rattle.kv_request.specs.declared.request.Body.{Body}
 use Rattle.kv_request.specs.declared.request.Body.TheVariants as bodies
@@ -25,7 +31,7 @@ use Rattle.doc_step.specs.declared.Effect.TheVariants as effects
 use Rattle.doc_step.specs.declared.Change.{Change}
 use Rattle.doc_step.specs.Expiry.{Setting, there}
 use Rattle.doc_step.specs.Counter.{number_of, moved}
-use Rattle.doc_step.specs.Step.{cas_refusal, storing, with_value, get_step, stored_doc, store_step, delete_step, new_counter, count_step, joined_value, join_step, touch_step, operation, document_step}
+use Rattle.doc_step.specs.Step.{cas_refusal, storing, with_value, get_step, stored_doc, store_step, delete_step, new_counter, count_step, joined_value, join_step, touch_step, look_answered, look_step, edit_answered, makes_several, doc_to_edit, edit_made, edit_step, operation, document_step}
 use Rattle.manifest_rules.specs.Catalog.{max_ttl_of}
 use Rattle.vb_core.specs.Log.{Content, with_entries, doc_of}
 use Rattle.vb_core.specs.Step.{drawn, entries_of, changes, with_token, concluded, setting_at, document_request}
@@ -81,6 +87,27 @@ touch_stores : (s : Setting) (request : Request) (key : DocKey) (expiry : ℕ) (
 touch_stores s request key expiry fetch None = tt
 touch_stores s request key expiry fetch (Some doc) = refl
 
+looked_stores : (s : Setting) (request : Request) (doc : Doc) (found : Result (List ℕ) Status) → ResultStores s.draw (look_answered request doc found)
+looked_stores s request doc (Ok piece) = tt
+looked_stores s request doc (Err refusing) = tt
+
+look_stores : (s : Setting) (request : Request) (spec : Spec) (doc : Option Doc) (lookup : Option Lookup) → ResultStores s.draw (option_map_or {U = Result Change Status} (look_step request spec doc) lookup (Err status.UNKNOWN_COMMAND))
+look_stores s request spec doc None = tt
+look_stores s request spec None (Some lookup) = tt
+look_stores s request spec (Some doc) (Some lookup) = looked_stores s request doc (looked_up lookup doc.value spec.path)
+
+edited_stores : (s : Setting) (request : Request) (doc : Doc) (made : Result EditedText Status) → ResultStores s.draw (edit_answered s request doc made)
+edited_stores s request doc (Ok made) = refl
+edited_stores s request doc (Err refusing) = tt
+
+made_stores : (s : Setting) (request : Request) (spec : Spec) (several : Bool) (edit : Edit) (doc : Result Doc Status) → ResultStores s.draw (edit_made s request spec several edit doc)
+made_stores s request spec several edit (Ok doc) = edited_stores s request doc (edited edit several doc.value spec.path spec.value)
+made_stores s request spec several edit (Err refusing) = tt
+
+edit_stores : (s : Setting) (request : Request) (spec : Spec) (expiry : Option ℕ) (flags : ℕ) (doc : Option Doc) (edit : Option Edit) → ResultStores s.draw (option_map_or {U = Result Change Status} (edit_step s request spec expiry flags doc) edit (Err status.UNKNOWN_COMMAND))
+edit_stores s request spec expiry flags doc None = tt
+edit_stores s request spec expiry flags doc (Some edit) = made_stores s request spec (makes_several spec flags) edit (doc_to_edit s expiry flags spec.path doc)
+
 operation_stores : (s : Setting) (request : Request) (body : Body) (doc : Option Doc) → ResultStores s.draw (operation s request body doc)
 operation_stores s request (bodies.Hello wanted) doc = tt
 operation_stores s request bodies.Noop doc = tt
@@ -96,6 +123,8 @@ operation_stores s request (bodies.Delete key) doc = delete_stores s request doc
 operation_stores s request (bodies.Count key up delta initial expiry) doc = count_stores s request up delta initial expiry doc
 operation_stores s request (bodies.Join key front value) doc = join_stores s request front value doc
 operation_stores s request (bodies.Touch key expiry fetch) doc = touch_stores s request key expiry fetch doc
+operation_stores s request (bodies.Look key spec) doc = look_stores s request spec doc (lookup_of spec.opcode)
+operation_stores s request (bodies.Edit key spec expiry flags) doc = edit_stores s request spec expiry flags doc (edit_of spec.opcode)
 
 step_stores : (s : Setting) (request : Request) (doc : Option Doc) (change : Change) → document_step s request doc ≡ Ok change → StoresDraw s.draw change.effect
 step_stores s request doc change e =

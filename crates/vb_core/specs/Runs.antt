@@ -75,6 +75,8 @@ LeavesBody key (bodies.Delete other) = other ≢ key
 LeavesBody key (bodies.Count other up delta initial expiry) = other ≢ key
 LeavesBody key (bodies.Join other front value) = other ≢ key
 LeavesBody key (bodies.Touch other expiry fetch) = other ≢ key
+LeavesBody key (bodies.Look other spec) = Unit {0}
+LeavesBody key (bodies.Edit other spec expiry flags) = other ≢ key
 
 abbrev pub Leaves : DocKey → Event → Type 0
 Leaves key e = LeavesBody key e.request.body

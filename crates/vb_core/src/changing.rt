@@ -79,6 +79,7 @@ pub(crate) fn name_of(body: &Body) -> Option<&DocKey>
         }
         Body::Join { key, .. } => Some(key),
         Body::Touch { key, .. } => Some(key),
+        Body::Look { key, .. } | Body::Edit { key, .. } => Some(key),
     }
 }
 

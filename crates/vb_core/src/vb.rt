@@ -202,6 +202,7 @@ impl Vb {
             Body::Hello { .. } | Body::Noop | Body::Version | Body::Quit => unreachable!(),
             Body::Get { .. } | Body::Store { .. } | Body::Delete { .. } => unreachable!(),
             Body::Count { .. } | Body::Join { .. } | Body::Touch { .. } => unreachable!(),
+            Body::Look { .. } | Body::Edit { .. } => unreachable!(),
         }
     }
 
