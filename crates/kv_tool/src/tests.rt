@@ -74,6 +74,11 @@ const QUIT: [u8; 24] = [
     0x80, 0x07, 0, 0, 0, 0, 0, 0, 0, 0, 0, 0, 0, 0, 0, 5, 0, 0, 0, 0, 0, 0, 0, 0,
 ];
 
+// The header of a Noop but for its first byte, which no frame has.
+const NO_FRAME: [u8; 24] = [
+    0x82, 0x0a, 0, 0, 0, 0, 0, 0, 0, 0, 0, 0, 0, 0, 0, 0, 0, 0, 0, 0, 0, 0, 0, 0,
+];
+
 const QUIT_AND_GET: &str = "\
     80 07 0000 00 00 0000 00000000 00000005 0000000000000000 \
     80 00 0001 00 00 0000 00000001 00000006 0000000000000000 61";
@@ -87,7 +92,7 @@ const QUITQ_AND_GET: &str = "\
 // Asks for the features 0003, 0004 and 000b.
 const HELLO: &str = "80 1f 0000 00 00 0000 00000006 00000007 0000000000000000 0003 0004 000b";
 
-const GRANTED: &str = "81 1f 0000 00 00 0000 00000002 00000007 0000000000000000 0004";
+const GRANTED: &str = "81 1f 0000 00 00 0000 00000004 00000007 0000000000000000 0004 000b";
 
 // Sets with a framing extra that asks for a level of durability: 1, 4, and 1 with the timeout 0.
 const SET_AT_LEVEL_1: &str =
@@ -235,6 +240,114 @@ fn features_and_levels_are_answered(rt: HostRuntime) -> Result<(), Fail> {
     Ok(())
 }
 
+// A Set of the key `d` to `{ "a" : 1 }`, and a DictUpsert of its member `b` to `2`.
+const SET_SPACED: &str =
+    "80 01 0001 08 00 0000 00000014 00000001 0000000000000000 00000000 00000000 64 7b20226122203a2031207d";
+
+const WAS_SET_SPACED: &str = "81 01 0000 00 00 0000 00000000 00000001 0000000000000001";
+
+const UPSERT_B: &str = "80 c8 0001 03 00 0000 00000006 00000002 0000000000000000 000100 64 6232";
+
+const WAS_UPSERTED: &str = "81 c8 0000 00 00 0000 00000000 00000002 0000000000000002";
+
+const GET_D: &str = "80 00 0001 00 00 0000 00000001 00000003 0000000000000000 64";
+
+// The document `{ "a" : 1,"b":2 }`.
+const HAS_BOTH: &str =
+    "81 00 0000 04 00 0000 00000015 00000003 0000000000000002 00000000 7b20226122203a20312c2262223a32207d";
+
+// A Set of the key `d` to `{"a":[1,2]}`.
+const SET_LIST: &str =
+    "80 01 0001 08 00 0000 00000014 00000001 0000000000000000 00000000 00000000 64 7b2261223a5b312c325d7d";
+
+// ArrayInsert of `3` at `a[2]`, `a[4]` and `a[-1]`.
+const INSERT_AT_2: &str =
+    "80 cd 0001 03 00 0000 00000009 00000002 0000000000000000 000400 64 615b325d33";
+
+const WAS_INSERTED: &str = "81 cd 0000 00 00 0000 00000000 00000002 0000000000000002";
+
+const INSERT_AT_4: &str =
+    "80 cd 0001 03 00 0000 00000009 00000002 0000000000000000 000400 64 615b345d33";
+
+const NO_PLACE: &str = "81 cd 0000 00 00 00c0 00000000 00000002 0000000000000000";
+
+const INSERT_AT_LAST: &str =
+    "80 cd 0001 03 00 0000 0000000a 00000002 0000000000000000 000500 64 615b2d315d33";
+
+const NO_INDEX: &str = "81 cd 0000 00 00 00c2 00000000 00000002 0000000000000000";
+
+// DictAdd of `1` at `b.c`, without and with the flag that makes parents.
+const ADD_BELOW: &str =
+    "80 c7 0001 03 00 0000 00000008 00000002 0000000000000000 000300 64 622e6331";
+
+const NO_PARENT: &str = "81 c7 0000 00 00 00c0 00000000 00000002 0000000000000000";
+
+const ADD_WITH_PARENT: &str =
+    "80 c7 0001 03 00 0000 00000008 00000002 0000000000000000 000301 64 622e6331";
+
+const WAS_ADDED: &str = "81 c7 0000 00 00 0000 00000000 00000002 0000000000000003";
+
+// The document `{"a":[1,2,3],"b":{"c":1}}`.
+const HAS_LIST_AND_MEMBER: &str =
+    "81 00 0000 04 00 0000 0000001d 00000003 0000000000000003 00000000 7b2261223a5b312c322c335d2c2262223a7b2263223a317d7d";
+
+// Asks for tokens, for JSON and for collections, as the client `sdk`.
+const HELLO_ALL: &str =
+    "80 1f 0003 00 00 0000 0000000b 00000000 0000000000000000 73646b 0003 0004 000b 0012";
+
+const GRANTED_ALL: &str =
+    "81 1f 0000 00 00 0000 00000006 00000000 0000000000000000 0004 000b 0012";
+
+// A Set of the key `a` in collection 0 to `{"n":1}`, and its Get.
+const SET_JSON: &str =
+    "80 01 0002 08 01 0000 00000011 00000001 0000000000000000 0000000000000000 0061 7b226e223a317d";
+
+const WAS_SET_JSON: &str =
+    "81 01 0000 10 00 0000 00000010 00000001 0000000000000001 0000000000000004 0000000000000001";
+
+const GET_JSON: &str = "80 00 0002 00 00 0000 00000002 00000002 0000000000000000 0061";
+
+const HAS_JSON: &str =
+    "81 00 0000 04 01 0000 0000000b 00000002 0000000000000001 00000000 7b226e223a317d";
+
+#[test]
+fn documents_are_edited_in_place(rt: HostRuntime) -> Result<(), Fail> {
+    let cases: [(&[&str], &[&str]); 3] = [
+        (
+            &[SET_SPACED, UPSERT_B, GET_D],
+            &[WAS_SET_SPACED, WAS_UPSERTED, HAS_BOTH],
+        ),
+        (
+            &[
+                SET_LIST,
+                INSERT_AT_2,
+                INSERT_AT_4,
+                INSERT_AT_LAST,
+                ADD_BELOW,
+                ADD_WITH_PARENT,
+                GET_D,
+            ],
+            &[
+                WAS_SET_SPACED,
+                WAS_INSERTED,
+                NO_PLACE,
+                NO_INDEX,
+                NO_PARENT,
+                WAS_ADDED,
+                HAS_LIST_AND_MEMBER,
+            ],
+        ),
+        (
+            &[HELLO_ALL, SET_JSON, GET_JSON],
+            &[GRANTED_ALL, WAS_SET_JSON, HAS_JSON],
+        ),
+    ];
+    for (frames, replies) in cases {
+        assert_answered(&rt, rt.alloc(), frames, replies, Exit::Done)?;
+    }
+    Ok(())
+}
+
 // Adds the bytes of a row and of a text.
 fn add(alloc: Global, bytes: &mut Vec<u8>, row: &str, text: &str) -> Result<(), Fail> {
     add_row(alloc, bytes, row)?;
@@ -375,13 +488,14 @@ fn a_key_has_at_most_250_bytes(rt: HostRuntime) -> Result<(), Fail> {
     Ok(())
 }
 
-// A source that gives the frame of a Quit at each call, and counts the calls.
+// A source that gives one frame at each call, and counts the calls.
 #[derive(Drop)]
-struct Quitting {
+struct Repeating {
+    frame: [u8; 24],
     calls: u64,
 }
 
-impl Source for Quitting {
+impl Source for Repeating {
     ghost left = { λ _. None };
 
     ghost faults = { λ _. 0 };
@@ -391,12 +505,12 @@ impl Source for Quitting {
         if buf.is_empty() {
             return Taken::Got(0);
         }
-        if buf.len() < QUIT.len() {
+        if buf.len() < self.frame.len() {
             return Taken::End;
         }
-        let (front, _) = buf.split_at_mut(QUIT.len());
-        front.copy_from_slice(&QUIT);
-        Taken::Got(QUIT.len())
+        let (front, _) = buf.split_at_mut(self.frame.len());
+        front.copy_from_slice(&self.frame);
+        Taken::Got(self.frame.len())
     }
 }
 
@@ -418,17 +532,23 @@ impl Clock for Counting {
 }
 
 #[test]
-fn the_clock_is_read_once_and_nothing_behind_a_quit(rt: HostRuntime) -> Result<(), Fail> {
+fn the_clock_is_read_once_and_nothing_behind_the_end(rt: HostRuntime) -> Result<(), Fail> {
     let alloc = rt.alloc();
     let words = words_of(alloc, &["pipe"])?;
-    let mut source = Quitting { calls: 0 };
-    let mut sink = MemSink::new(alloc, 1 << 20, Vec::new(alloc));
-    let mut clock = Counting { calls: 0 };
-    let exit = run_offline(alloc, &words, &mut source, &mut sink, &mut clock);
-    let output = bytes_of(alloc, &[HAS_QUIT])?;
-    assert_eq!(rt; exit, Exit::Done);
-    assert_eq!(rt; sink.bytes(), output.as_slice());
-    assert_eq!(rt; (source.calls, clock.calls), (1, 1));
+    let rows: [([u8; 24], Exit, &[&str]); 2] = [
+        (QUIT, Exit::Done, &[HAS_QUIT]),
+        (NO_FRAME, Exit::BadFrame(0), &[]),
+    ];
+    for (frame, wanted, replies) in rows {
+        let mut source = Repeating { frame, calls: 0 };
+        let mut sink = MemSink::new(alloc, 1 << 20, Vec::new(alloc));
+        let mut clock = Counting { calls: 0 };
+        let exit = run_offline(alloc, &words, &mut source, &mut sink, &mut clock);
+        let output = bytes_of(alloc, replies)?;
+        assert_eq!(rt; exit, wanted);
+        assert_eq!(rt; sink.bytes(), output.as_slice());
+        assert_eq!(rt; (source.calls, clock.calls), (1, 1));
+    }
     Ok(())
 }
 
