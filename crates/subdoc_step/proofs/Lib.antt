@@ -1,0 +1,5 @@
+pub mod Texts
+pub mod Paths
+pub mod Followed
+pub mod Firsts
+pub mod Looked
