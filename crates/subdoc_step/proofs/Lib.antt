@@ -3,3 +3,5 @@ pub mod Paths
 pub mod Followed
 pub mod Firsts
 pub mod Looked
+pub mod Numbers
+pub mod Pieces
