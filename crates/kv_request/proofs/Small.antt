@@ -1,9 +1,9 @@
 -- Replies whose parts are short have frames, and requests are small.
-use Rattle.std.specs.Prelude.{◌≡◌, ℕ, ◌^◌, ◌<◌, ◌≤◌, ◌+◌, nat_eq, nat_le, is_some, unwrap_or, option_and_then, Bool, true, false, ◌&&◌, List, [], ◌∷◌, ◌++◌, length, Option, Some, None, Result, Ok, Err, if◌then◌else◌, refl}
+use Rattle.std.specs.Prelude.{◌≡◌, ℕ, ◌^◌, ◌<◌, ◌≤◌, ◌+◌, nat_eq, nat_le, is_some, unwrap_or, option_and_then, Bool, true, false, ◌&&◌, List, [], ◌∷◌, ◌++◌, length, take, drop, Option, Some, None, Result, Ok, Err, if◌then◌else◌, refl}
 use Rattle.std.specs.List.{AllByRecursion}
 use Rattle.std.specs.Option.{option_map_or, IfSome}
 use Rattle.std.proofs.Common.{subst, arith}
-use Rattle.std.proofs.lemmas.List.{length-append}
+use Rattle.std.proofs.lemmas.List.{length-append, take-append-drop}
 use Rattle.std.proofs.lemmas.Bool.{and_parts, leb-true}
 use Rattle.kv_frame.specs.declared.frame.Frame.{Frame}
 use Rattle.kv_frame.specs.declared.frame.Magic.{Magic}
@@ -22,6 +22,7 @@ use Rattle.kv_request.specs.declared.request.Features.{Features}
 use Rattle.kv_request.specs.declared.request.Request.{Request}
 use Rattle.kv_request.specs.declared.reply.Reply.{Reply}
 use Rattle.kv_request.specs.Opcodes.{command_of, is_of_streams}
+use Rattle.kv_request.specs.Parts.{path_length}
 use Rattle.kv_request.specs.Tables.{key_within, name_limit, key_from, is_key, value_limit, no_key, key_bytes, name_length, checks, first_failing, request_of, checked, flags_bytes, token_bytes, IsReply, IsSmallReply, IsRequest, IsSmallRequest, IsSmallKey, key_named, value_brought, body_of}
 
 flags_short : (flags : Option ℕ) → length (flags_bytes flags) ≤ 4
@@ -137,6 +138,10 @@ either_short : (b : Bool) (x y : List ℕ) → length x ≤ VALUE_LIMIT → leng
 either_short true x y h k = h
 either_short false x y h k = k
 
+-- a path and what follows it are the value
+parted_short : (n : ℕ) (s : List ℕ) → length s ≤ VALUE_LIMIT → length (take n s ++ drop n s) ≤ VALUE_LIMIT
+parted_short n s h = rw take-append-drop h
+
 small_value : (features : Features) (f : Frame) (command : Command) → length f.key ≤ VALUE_LIMIT → length f.value ≤ VALUE_LIMIT → length (value_brought (body_of features f command)) ≤ VALUE_LIMIT
 small_value features f commands.Set k v = v
 small_value features f commands.Add k v = v
@@ -146,6 +151,8 @@ small_value features f commands.Prepend k v = v
 small_value features f commands.SetManifest k v = v
 small_value features f commands.CollectionId k v = either_short (nat_eq (length f.key) 0) f.value f.key v k
 small_value features f commands.ScopeId k v = either_short (nat_eq (length f.key) 0) f.value f.key v k
+small_value features f (commands.Look lookup) k v = parted_short (path_length f) f.value v
+small_value features f (commands.Edit edit) k v = parted_short (path_length f) f.value v
 small_value features f command k v = omega arith
 
 small_made : (features : Features) (f : Frame) (command : Command) (made : Request) → Fits f → Passed features f command made → IsSmallRequest made

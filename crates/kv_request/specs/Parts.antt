@@ -1,6 +1,6 @@
 -- Requests on a part of a document. Their extras are the path's length in two bytes and its flags in one, then perhaps an
 -- expiry, then perhaps flags for the document; their value is the path, and behind it what comes with an edit.
-use Rattle.std.specs.Prelude.{ℕ, nat_eq, nat_le, Bool, true, false, ◌&&◌, ◌||◌, not, slice_index, bit_and, List, [], ◌∷◌, length, take, drop, Option, Some, None, if◌then◌else◌, ◌-◌}
+use Rattle.std.specs.Prelude.{ℕ, nat_eq, nat_le, Bool, ◌&&◌, ◌||◌, not, slice_index, bit_and, List, [], ◌∷◌, length, take, drop, Option, Some, None, if◌then◌else◌, ◌-◌}
 use Rattle.std.specs.Int.{w16, w32, from_be_bytes}
 use Rattle.kv_frame.specs.declared.frame.Frame.{Frame}
 use Rattle.doc_model.specs.declared.status.Status.{Status}

@@ -6,12 +6,18 @@ use Rattle.doc_model.specs.declared.status.Status.{Status}
 use Rattle.kv_request.specs.declared.opcode.Command.{Command}
 use Rattle.kv_request.specs.declared.request.Features.{Features}
 use Rattle.kv_request.specs.declared.reading.KeyView.{KeyView}
+use Rattle.kv_request.specs.declared.parts.SpecView.{SpecView}
+use Rattle.kv_request.specs.declared.request.Spec.{Spec}
 use Rattle.kv_request.specs.Opcodes.{names_document}
 use Rattle.kv_request.specs.Tables.{has_form, key_from, is_key, checks, first_failing}
 
 -- the key that is seen
 abbrev pub key_seen : KeyView → DocKey
 key_seen k = record { collection = k.collection; key = k.name.now }
+
+-- the path that is seen, with what comes with it
+abbrev pub spec_seen : SpecView → Spec
+spec_seen s = record { opcode = s.opcode; flags = s.flags; path = s.path.now; value = s.value.now }
 
 -- where the bytes are a document's key, it is the one that they spell
 abbrev pub IsKeyOf : Features → Command → List ℕ → KeyView → Type 0

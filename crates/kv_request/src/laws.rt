@@ -5,8 +5,13 @@ ghost use Rattle.kv_request.specs.declared.request.Request.{Request};
 ghost use Rattle.doc_model.specs.declared.key.DocKey.{DocKey};
 ghost use Rattle.leb_collections.specs.Leb128.{AreBytes};
 ghost use Rattle.kv_request.specs.Tables.{IsReply, IsSmallReply, IsRequest, IsSmallRequest, IsNamed, key_from, key_spelling};
-ghost use Rattle.std.specs.Prelude.{◌≡◌, ℕ, Bool, List, Some};
+ghost use Rattle.kv_request.specs.Opcodes.{form_of};
+ghost use Rattle.kv_request.specs.declared.opcode.Command.TheVariants as commands;
+ghost use Rattle.json_model.specs.declared.asked.Lookup.{Lookup};
+ghost use Rattle.json_model.specs.declared.asked.Edit.{Edit};
+ghost use Rattle.std.specs.Prelude.{◌≡◌, ℕ, Bool, List, [], ◌∷◌, Some};
 
+use crate::parts::{ADDS_DOCUMENT, EXPANDS_MACROS, IS_XATTR, MAKES_DOCUMENT, MAKES_PARENTS};
 use crate::reading::{
     DURABILITY, KEY_LIMIT, MANIFEST_LIMIT, OTHER_KEY_LIMIT, USUAL_TIMEOUT, VALUE_LIMIT,
 };
@@ -39,4 +44,16 @@ pub fn request_numbers()
     ensures value_limit { VALUE_LIMIT ≡ 20971520 }
     ensures durability { DURABILITY ≡ 1 }
     ensures usual_timeout { USUAL_TIMEOUT ≡ 30000 }
+{}
+
+/// The flags of a path and those of a document are these bits, and the extras of a look-up and of an edit have one of
+/// these numbers of bytes.
+pub fn part_numbers()
+    ensures makes_parents { MAKES_PARENTS ≡ 1 }
+    ensures is_xattr { IS_XATTR ≡ 4 }
+    ensures expands_macros { EXPANDS_MACROS ≡ 16 }
+    ensures makes_document { MAKES_DOCUMENT ≡ 1 }
+    ensures adds_document { ADDS_DOCUMENT ≡ 2 }
+    ensures looks { (lookup : Lookup) → (form_of (commands.Look lookup)).extras ≡ 3 ∷ 4 ∷ [] }
+    ensures edits { (edit : Edit) → (form_of (commands.Edit edit)).extras ≡ 3 ∷ 4 ∷ 7 ∷ 8 ∷ [] }
 {}

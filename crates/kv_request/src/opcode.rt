@@ -1,5 +1,5 @@
 ghost use Rattle.std.specs.Prelude.{◌≡◌};
-ghost use Rattle.kv_request.specs.Opcodes.{is_quiet, is_unsent};
+ghost use Rattle.kv_request.specs.Opcodes.{is_quiet, is_unsent, part_command};
 
 use doc_model::Status;
 use json_model::{Edit, Lookup};
@@ -97,6 +97,42 @@ pub const COLLECTION_ID: u8 = 0xbb;
 /// Get scope id: the id of a scope.
 pub const SCOPE_ID: u8 = 0xbc;
 
+/// The text at a path.
+pub const LOOK_GET: u8 = 0xc5;
+
+/// Whether a path leads to a value.
+pub const LOOK_EXISTS: u8 = 0xc6;
+
+/// How many members or elements there are at a path.
+pub const LOOK_GET_COUNT: u8 = 0xd2;
+
+/// Inserts a member where there is none of its name.
+pub const EDIT_DICT_ADD: u8 = 0xc7;
+
+/// Replaces a member's value, or inserts a member.
+pub const EDIT_DICT_UPSERT: u8 = 0xc8;
+
+/// Removes a member or an element.
+pub const EDIT_DELETE: u8 = 0xc9;
+
+/// Replaces a value.
+pub const EDIT_REPLACE: u8 = 0xca;
+
+/// Puts elements behind the last one.
+pub const EDIT_ARRAY_PUSH_LAST: u8 = 0xcb;
+
+/// Puts elements before the first one.
+pub const EDIT_ARRAY_PUSH_FIRST: u8 = 0xcc;
+
+/// Puts elements before the one that the path names.
+pub const EDIT_ARRAY_INSERT: u8 = 0xcd;
+
+/// Puts an element behind the last one, where none has its text.
+pub const EDIT_ARRAY_ADD_UNIQUE: u8 = 0xce;
+
+/// Counts a whole number up or down.
+pub const EDIT_COUNTER: u8 = 0xcf;
+
 /// The first and the last opcode of streams between nodes.
 pub const FIRST_STREAM: u8 = 0x50;
 
@@ -134,6 +170,7 @@ pub enum Command {
 
 impl Command {
     ghost use Rattle.kv_request.specs.Opcodes.{command_of, names_document, takes_level, tells_key, unsent_status};
+    ghost use Rattle.kv_request.specs.Opcodes.{takes_value, may_make_parents, takes_whole};
 
     /// The command of an opcode that is served.
     pub fn of(opcode: u8) -> Option<Command>
@@ -160,7 +197,7 @@ impl Command {
             GET_MANIFEST => Some(Command::GetManifest),
             COLLECTION_ID => Some(Command::CollectionId),
             SCOPE_ID => Some(Command::ScopeId),
-            _ => None,
+            _ => part_command(opcode),
         }
     }
 
@@ -202,6 +239,42 @@ impl Command {
                 | Command::Decrement
                 | Command::Append
                 | Command::Prepend
+                | Command::Edit(_)
+        )
+    }
+
+    /// Whether a value may come behind the path, where the command is on a part of a document.
+    pub fn takes_value(self) -> bool
+        ensures { result ≡ takes_value self }
+    {
+        !matches!(self, Command::Look(_) | Command::Edit(Edit::Delete))
+    }
+
+    /// Whether the command makes several parts of a path that are absent, where it is asked to.
+    pub fn may_make_parents(self) -> bool
+        ensures { result ≡ may_make_parents self }
+    {
+        matches!(
+            self,
+            Command::Edit(Edit::DictAdd)
+                | Command::Edit(Edit::DictUpsert)
+                | Command::Edit(Edit::ArrayPushLast)
+                | Command::Edit(Edit::ArrayPushFirst)
+                | Command::Edit(Edit::ArrayAddUnique)
+                | Command::Edit(Edit::Counter)
+        )
+    }
+
+    /// Whether the command takes the whole document, by the path of no bytes.
+    pub fn takes_whole(self) -> bool
+        ensures { result ≡ takes_whole self }
+    {
+        matches!(
+            self,
+            Command::Look(Lookup::GetCount)
+                | Command::Edit(Edit::ArrayPushLast)
+                | Command::Edit(Edit::ArrayPushFirst)
+                | Command::Edit(Edit::ArrayAddUnique)
         )
     }
 
@@ -213,6 +286,27 @@ impl Command {
             Command::Get | Command::GetKey => Status::KEY_ENOENT,
             _ => Status::SUCCESS,
         }
+    }
+}
+
+/// What an opcode asks of a part of a document.
+fn part_command(opcode: u8) -> Option<Command>
+    ensures { result ≡ part_command opcode }
+{
+    match opcode {
+        LOOK_GET => Some(Command::Look(Lookup::Get)),
+        LOOK_EXISTS => Some(Command::Look(Lookup::Exists)),
+        LOOK_GET_COUNT => Some(Command::Look(Lookup::GetCount)),
+        EDIT_DICT_ADD => Some(Command::Edit(Edit::DictAdd)),
+        EDIT_DICT_UPSERT => Some(Command::Edit(Edit::DictUpsert)),
+        EDIT_DELETE => Some(Command::Edit(Edit::Delete)),
+        EDIT_REPLACE => Some(Command::Edit(Edit::Replace)),
+        EDIT_ARRAY_PUSH_LAST => Some(Command::Edit(Edit::ArrayPushLast)),
+        EDIT_ARRAY_PUSH_FIRST => Some(Command::Edit(Edit::ArrayPushFirst)),
+        EDIT_ARRAY_INSERT => Some(Command::Edit(Edit::ArrayInsert)),
+        EDIT_ARRAY_ADD_UNIQUE => Some(Command::Edit(Edit::ArrayAddUnique)),
+        EDIT_COUNTER => Some(Command::Edit(Edit::Counter)),
+        _ => None,
     }
 }
 

@@ -10,6 +10,7 @@ ghost use Rattle.kv_request.specs.Tables.{joined, touched, pairs_of, body_with};
 ghost use Rattle.kv_request.specs.Viewing.{key_seen, FindsKey, Checks};
 
 use crate::opcode::{Command, FIRST_STREAM, LAST_STREAM};
+use crate::parts::{check_body, edit, look};
 use crate::request::{Body, Durability, Features, Mode, Request};
 use doc_model::{DocKey, Refused, Status};
 use kv_edge::{Bytes, NoMemory, Seq, u32_at, u64_at};
@@ -117,7 +118,10 @@ fn check<'a>(
     if !is_cas_taken(command, view.cas) {
         return Err(Status::EINVAL);
     }
-    Ok(key)
+    match check_body(view, command) {
+        Some(status) => Err(status),
+        None => Ok(key),
+    }
 }
 
 /// The framing extra that asks for a level of durability, the first where there are several.
@@ -221,6 +225,8 @@ fn has_form(view: &FrameView<'_>, command: Command) -> bool
         }
         Command::Hello | Command::CollectionId | Command::ScopeId => extras == 0,
         Command::SetManifest => extras == 0 && key == 0 && value > 0,
+        Command::Look(_) => (extras == 3 || extras == 4) && key > 0,
+        Command::Edit(_) => (extras == 3 || extras == 4 || extras == 7 || extras == 8) && key > 0,
     }
 }
 
@@ -351,6 +357,8 @@ fn body(
         Command::ScopeId => Ok(Body::ScopeId {
             path: path_of(alloc, view)?,
         }),
+        Command::Look(_) => look(alloc, view, key),
+        Command::Edit(_) => edit(alloc, view, key),
     }
 }
 
@@ -430,7 +438,7 @@ fn path_of(alloc: Global, view: &FrameView<'_>) -> Result<Bytes, NoMemory>
 }
 
 /// The number that four bytes of the extras are.
-fn word_at(offset: usize, extras: &[u8]) -> u32
+pub(crate) fn word_at(offset: usize, extras: &[u8]) -> u32
     requires { offset + 4 ≤ length extras.now }
     ensures { result ≡ word_at offset extras.now }
 {
