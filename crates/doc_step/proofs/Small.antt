@@ -1,5 +1,5 @@
 -- What a request does to a small document is small, and its reply has a frame.
-use Rattle.std.specs.Prelude.{◌≡◌, ℕ, ◌+◌, ◌^◌, ◌<◌, ◌≤◌, nat_eq, nat_lt, Bool, true, false, List, [], length, Option, Some, None, Result, Ok, Err, if◌then◌else◌, refl}
+use Rattle.std.specs.Prelude.{◌≡◌, ℕ, ◌+◌, ◌^◌, ◌<◌, ◌≤◌, nat_eq, nat_lt, Bool, true, false, List, [], length, Option, Some, None, Result, Ok, Err, if◌then◌else◌, ℤ, refl}
 use Rattle.std.specs.Int.{w64, to_be_bytes}
 use Rattle.std.specs.Option.{option_map_or, IfSome}
 use Rattle.std.specs.Fmt.{decimal}
@@ -30,6 +30,8 @@ use Rattle.doc_step.specs.Expiry.{Setting, there, is_expired}
 use Rattle.doc_step.specs.Counter.{number_of, moved}
 use Rattle.doc_step.specs.Step.{cas_refusal, changing, carrying, storing, with_value, get_step, stored_doc, store_step, delete_step, new_counter, count_step, joined_value, join_step, touched_doc, touched_reply, touch_step, look_answered, look_step, number_text, edit_answered, makes_several, doc_to_edit, edit_made, edit_step, operation, document_step}
 use Rattle.doc_step.specs.Laws.{IsSmallDoc, IsSmallChange, HasSmallInitial}
+use Rattle.subdoc_step.proofs.Numbers.{number_bytes, edited_short}
+use Rattle.subdoc_step.proofs.Pieces.{looked_within}
 use Rattle.doc_step.proofs.Counting.{decimal_short, number_small, moved_small}
 
 -- the result of a step, where it isn't a refusal
@@ -129,7 +131,7 @@ touch_small s request key expiry fetch (Some doc) r k h d =
 
 looked_small : (request : Request) (lookup : Lookup) (doc : Doc) (path : List ℕ) (found : Result (List ℕ) Status) → IsSmallRequest request → IsSmallDoc doc → looked_up lookup doc.value path ≡ found → IsSmallResult (look_answered request doc found)
 looked_small request lookup doc path (Ok piece) r d e =
-    record { reply = changing_small request doc.cas piece r d.cas (omega (arith, looked_within lookup doc.value path piece e, d.value)); effect = tt }
+    record { reply = changing_small request doc.cas piece r d.cas (omega (arith, looked_within lookup doc.value path piece (omega (arith, d.value)) e, d.value)); effect = tt }
 looked_small request lookup doc path (Err refusing) r d e = tt
 
 look_small : (request : Request) (spec : Spec) (doc : Option Doc) (lookup : Option Lookup) → IsSmallRequest request → IfSome doc IsSmallDoc → IsSmallResult (option_map_or {U = Result Change Status} (look_step request spec doc) lookup (Err status.UNKNOWN_COMMAND))
@@ -137,12 +139,16 @@ look_small request spec doc None r d = tt
 look_small request spec None (Some lookup) r d = tt
 look_small request spec (Some doc) (Some lookup) r d = looked_small request lookup doc spec.path (looked_up lookup doc.value spec.path) r d refl
 
+number_same : (n : Option ℤ) → length (number_bytes n) ≤ 21 → length (number_text n) ≤ 21
+number_same None h = h
+number_same (Some n) h = h
+
 edited_small : (s : Setting) (request : Request) (edit : Edit) (several : Bool) (path value : List ℕ) (doc : Doc) (made : Result EditedText Status) → IsSmallRequest request → s.draw < 2 ^ 64
     → edited edit several doc.value path value ≡ made → IsSmallResult (edit_answered s request doc made)
 edited_small s request edit several path value doc (Ok made) r h e =
     storing_small request (with_value s doc made.text) (number_text made.number) r
-    (record { value = omega (arith, edited_within edit several doc.value path value made e); cas = h })
-    (omega (arith, number_within edit several doc.value path value made e))
+    (record { value = omega (arith, (edited_short edit several doc.value path value made e).text); cas = h })
+    (omega (arith, number_same made.number (edited_short edit several doc.value path value made e).number))
 edited_small s request edit several path value doc (Err refusing) r h e = tt
 
 made_small : (s : Setting) (request : Request) (spec : Spec) (several : Bool) (edit : Edit) (doc : Result Doc Status) → IsSmallRequest request → s.draw < 2 ^ 64 → IsSmallResult (edit_made s request spec several edit doc)
