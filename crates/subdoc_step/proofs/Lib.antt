@@ -3,3 +3,6 @@ pub mod Paths
 pub mod Followed
 pub mod Firsts
 pub mod Looked
+pub mod Given
+pub mod Deep
+pub mod Edited
