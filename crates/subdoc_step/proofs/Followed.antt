@@ -1,14 +1,13 @@
 -- Following as a function comes to what following comes to.
-use Rattle.std.proofs.Common.{◌≡◌, ◌≢◌, ℕ, zero, suc, ◌-◌, ◌<◌, ◌≤◌, List, [], ◌∷◌, drop, Bool, true, false, cond, Option, Some, None, inl, inr, refl, sym, ap, subst, ◌∙◌, arith}
+use Rattle.std.proofs.Common.{◌≡◌, ◌≢◌, ℕ, zero, suc, ◌<◌, List, [], ◌∷◌, drop, Bool, true, false, cond, Option, Some, None, inl, inr, refl, sym, ap, subst, ◌∙◌, arith}
 use Rattle.std.specs.Prelude.{nat_lt, option_map}
 use Rattle.std.proofs.lemmas.Bool.Decides.{nat_tests}
 use Rattle.json_model.specs.declared.kinds.Shape.{Shape}
 use Rattle.json_model.specs.declared.kinds.Shape.TheVariants as shapes
 use Rattle.json_model.specs.declared.asked.Part.{Part}
 use Rattle.json_model.specs.declared.asked.Part.TheVariants.{Member, At, Last}
-use Rattle.json_model.specs.Decoding.{StandsFor}
 use Rattle.json_model.specs.Spelled.{Head, plain, keyed, Tree, leaf, empty, group, Parts, last, more, count, HeadFits, Fits, PartsFit}
-use Rattle.json_model.specs.Follow.{IsCalled, IsFirstCalled, Names, asks, child, Outcome, reached, missing, mismatch, over, Follows}
+use Rattle.json_model.specs.Follow.{IsCalled, IsFirstCalled, Names, asks, child, Outcome, missing, mismatch, Follows}
 use Rattle.json_model.proofs.Following.{follows_one}
 use Rattle.subdoc_path.specs.Matching.{matches}
 use Rattle.subdoc_path.proofs.Matches.{matched}

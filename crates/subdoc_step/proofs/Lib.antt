@@ -5,3 +5,6 @@ pub mod Firsts
 pub mod Looked
 pub mod Numbers
 pub mod Pieces
+pub mod Given
+pub mod Deep
+pub mod Edited

@@ -1,9 +1,7 @@
 -- A look-up as a function answers what the definition has.
-use Rattle.std.proofs.Common.{◌≡◌, ℕ, List, Result, Ok, ◌∙◌, ap, refl}
+use Rattle.std.proofs.Common.{◌≡◌, ℕ, List, Result, ◌∙◌, ap, refl}
 use Rattle.doc_model.specs.declared.status.Status.{Status}
-use Rattle.json_model.specs.declared.asked.Part.{Part}
 use Rattle.json_model.specs.declared.asked.Lookup.{Lookup}
-use Rattle.json_model.specs.Spelled.{Document}
 use Rattle.json_model.specs.Paths.{ReadsPath}
 use Rattle.json_model.specs.Edit.{look_at}
 use Rattle.json_model.specs.Order.{First, ReadsText, LooksTree, Looks}

@@ -1,8 +1,7 @@
 -- What is read of bytes is what is told of them.
-use Rattle.std.proofs.Common.{◌≡◌, ℕ, ◌+◌, ◌<◌, ◌≤◌, List, [], ◌++◌, length, take, drop, Result, Ok, Err, ◌⊎◌, inl, inr, refl, sym, ap, subst, ◌∙◌, arith, append_assoc}
+use Rattle.std.proofs.Common.{◌≡◌, ℕ, ◌+◌, ◌<◌, ◌≤◌, List, [], ◌++◌, take, drop, Result, Ok, Err, ◌⊎◌, inl, inr, refl, sym, ap, subst, ◌∙◌, arith, append_assoc}
 use Rattle.std.proofs.lemmas.List.{take-take, take-append-drop}
 use Rattle.doc_model.specs.declared.status.Status.{Status}
-use Rattle.doc_model.specs.declared.status.TheConstants.Status as status
 use Rattle.json_model.specs.declared.TheConstants.{MOST_DEEP}
 use Rattle.json_model.specs.Spelled.{Document, IsText}
 use Rattle.json_model.specs.Fronts.{Begins, IsNot, IsDeep}
@@ -26,8 +25,8 @@ begins_less : (most m n : ℕ) (bytes : List ℕ) → m ≤ n → Begins most (t
 begins_less most m n bytes le (d, behind, is) =
     let shorter : take m (take n bytes) ≡ take m bytes = take-take m n bytes le in
     let whole : take n bytes ++ behind ≡ take m bytes ++ (drop m (take n bytes) ++ behind) =
-        ap (λ (l : List ℕ). l ++ behind) (sym (take-append-drop m (take n bytes)) ∙ ap (λ (l : List ℕ). l ++ drop m (take n bytes)) shorter)
-        ∙ append_assoc (take m bytes) (drop m (take n bytes)) behind in
+    ap (λ (l : List ℕ). l ++ behind) (sym (take-append-drop m (take n bytes)) ∙ ap (λ (l : List ℕ). l ++ drop m (take n bytes)) shorter)
+    ∙ append_assoc (take m bytes) (drop m (take n bytes)) behind in
     (d, drop m (take n bytes) ++ behind, subst (λ (l : List ℕ). IsText most d l) whole is)
 
 -- bytes that are no text at any depth aren't too deep
@@ -43,7 +42,7 @@ not_deep bytes p q wrong deep = by_place (order p q)
     by_place (inr (inr h)) = wrong.wrong (omega (arith, deep.within, h)) MOST_DEEP (begins_less MOST_DEEP (p + 1) q bytes (omega (arith, h)) deep.front)
 
 -- a text isn't too deep
-text_deep : (bytes : List ℕ) (d : Document) (q : ℕ) → IsText MOST_DEEP d bytes → IsDeep bytes q → ⊥
+pub text_deep : (bytes : List ℕ) (d : Document) (q : ℕ) → IsText MOST_DEEP d bytes → IsDeep bytes q → ⊥
 text_deep bytes d q is deep = deep.wrong (d, drop (q + 1) bytes, subst (λ (l : List ℕ). IsText MOST_DEEP d l) (sym (take-append-drop (q + 1) bytes)) is)
 
 -- reading never wants memory

@@ -1,12 +1,12 @@
 -- What a look-up and an edit of a text answer.
-use Rattle.std.specs.Prelude.{ℕ, List, [], ◌∷◌, Bool, Result, Ok, Err, if◌then◌else◌}
+use Rattle.std.specs.Prelude.{ℕ, List, Bool, Result, Ok, Err, if◌then◌else◌}
 use Rattle.doc_model.specs.declared.status.Status.{Status}
 use Rattle.doc_model.specs.declared.status.TheConstants.Status as status
 use Rattle.json_model.specs.declared.asked.Part.{Part}
 use Rattle.json_model.specs.declared.asked.Lookup.{Lookup}
 use Rattle.json_model.specs.declared.asked.Edit.{Edit}
-use Rattle.json_model.specs.Spelled.{Tree, Document}
-use Rattle.json_model.specs.Edit.{Asked, act_at, look_at}
+use Rattle.json_model.specs.Spelled.{Tree}
+use Rattle.json_model.specs.Edit.{act_at, look_at}
 use Rattle.json_model.specs.Order.{takes, Edited, done_to, shallow, EditedText, within_document, small}
 use Rattle.subdoc_step.specs.Texts.{read_text}
 use Rattle.subdoc_step.specs.Paths.{read_parts, followed}

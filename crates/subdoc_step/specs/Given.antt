@@ -1,9 +1,9 @@
 -- What comes with an edit, or why it is refused.
-use Rattle.std.specs.Prelude.{ℕ, zero, suc, List, [], Bool, true, false, ◌&&◌, if◌then◌else◌, Result, Ok, Err, ℤ, pos, nat_eq}
+use Rattle.std.specs.Prelude.{ℕ, zero, suc, List, [], Bool, ◌&&◌, not, if◌then◌else◌, Result, Ok, Err, ℤ, pos}
 use Rattle.std.specs.Ordering.{int_eq}
 use Rattle.std.specs.Fmt.{signed_decimal}
 use Rattle.std.specs.Str.Parse.{signed_digits_value}
-use Rattle.std.specs.Cmp.Lexicographic.{pointwise}
+use Rattle.std.specs.Str.{bytes_eq}
 use Rattle.doc_model.specs.declared.status.Status.{Status}
 use Rattle.doc_model.specs.declared.status.TheConstants.Status as status
 use Rattle.json_model.specs.declared.TheConstants.{MOST_DEEP}
@@ -69,7 +69,7 @@ leaf_given asked (Err stop) = Err status.VALUE_CANT_INSERT
 
 -- whether bytes are this number in decimal, and it is a delta
 abbrev pub is_delta : ℤ → List ℕ → Bool
-is_delta n bytes = pointwise nat_eq (signed_decimal n) bytes && ((if int_eq n (pos 0) then false else true) && fits_i64 n)
+is_delta n bytes = bytes_eq (signed_decimal n) bytes && not (int_eq n (pos 0)) && fits_i64 n
 
 -- a delta
 abbrev pub delta_given : List ℕ → Result Asked Status
