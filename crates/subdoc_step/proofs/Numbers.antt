@@ -1,10 +1,10 @@
 -- A number that a counter comes to is one of 64 bits with a sign.
-use Rattle.std.specs.Prelude.{◌≡◌, ℕ, ◌+◌, ◌^◌, ◌<◌, ◌≤◌, nat_eq, Bool, true, false, ◌&&◌, ◌||◌, if◌then◌else◌, List, [], ◌∷◌, length, Option, Some, None, Result, Ok, Err, ℤ, pos, negsuc, ◌+ℤ◌, nat_le, suc, refl}
+use Rattle.std.specs.Prelude.{◌≡◌, ℕ, ◌^◌, ◌<◌, ◌≤◌, nat_eq, Bool, true, false, ◌||◌, if◌then◌else◌, List, [], ◌∷◌, length, Option, Some, None, Result, Ok, Err, ℤ, pos, negsuc, ◌+ℤ◌, nat_le, suc, refl}
 use Rattle.std.specs.List.{list_all, list_any}
-use Rattle.std.specs.Fmt.{decimal, signed_decimal}
+use Rattle.std.specs.Fmt.{signed_decimal}
 use Rattle.std.specs.Cmp.Lexicographic.{pointwise}
-use Rattle.std.proofs.Common.{arith, sym, ap, subst, ◌∙◌}
-use Rattle.std.proofs.lemmas.Bool.{and_parts, leb-true}
+use Rattle.std.proofs.Common.{arith, sym, subst, inl, inr}
+use Rattle.std.proofs.lemmas.Bool.{leb-true}
 use Rattle.std.proofs.lemmas.Fmt.{length-decimal-le}
 use Rattle.std.proofs.lemmas.Bool.Decides.{nat_tests}
 use Rattle.doc_model.specs.declared.status.Status.{Status}
@@ -13,22 +13,21 @@ use Rattle.json_model.specs.declared.asked.Part.{Part}
 use Rattle.json_model.specs.declared.asked.Part.TheVariants.{Member, At, Last}
 use Rattle.json_model.specs.declared.asked.Edit.{Edit}
 use Rattle.json_model.specs.declared.asked.Edit.TheVariants as edits
-use Rattle.json_model.specs.declared.kinds.Kind.{Kind}
 use Rattle.json_model.specs.declared.kinds.Shape.TheVariants as shapes
 use Rattle.json_model.specs.Spelled.{Tree, leaf, empty, group, Parts, Document, text}
 use Rattle.json_model.specs.Follow.{Outcome, reached, missing, mismatch}
-use Rattle.json_model.specs.Moves.{Change}
-use Rattle.json_model.specs.Edit.{Asked, Act, act, dict_add, dict_upsert, delete, replace, push_last, push_first, array_insert, add_unique, counter, fits_i64, array_elements, is_leaf, number_of, to_array, to_set, counted, at_value, names_of, made, make, with_number, at_length, at_gap, act_at, nested}
-use Rattle.json_model.specs.Order.{Edited, done_to, shallow, EditedText, within_document, small}
+use Rattle.json_model.specs.Edit.{Asked, Act, dict_add, dict_upsert, delete, replace, push_last, push_first, array_insert, add_unique, counter, fits_i64, array_elements, is_leaf, number_of, to_array, to_set, counted, at_value, names_of, made, make, with_number, at_length, at_gap, act_at}
+use Rattle.json_model.specs.Order.{Edited, done_to, EditedText, within_document}
 use Rattle.json_model.specs.declared.TheConstants.{MOST_DEEP, TEXT_LIMIT}
 use Rattle.json_model.specs.Spelled.{depth}
 use Rattle.json_model.specs.Moves.{trimmed}
 use Rattle.json_spell.specs.declared.tokens.Stop.{Stop}
 use Rattle.json_spell.specs.declared.tokens.Stop.TheVariants as stops
-use Rattle.std.specs.Str.Parse.{signed_digits_value}
 use Rattle.subdoc_step.specs.Texts.{read_text}
 use Rattle.subdoc_step.specs.Paths.{read_parts, followed}
-use Rattle.subdoc_step.specs.Given.{too_deep, tree_given, parts_in, parts_given, leaf_in, leaf_given, is_delta, delta_given, given}
+use Rattle.subdoc_step.specs.Given.{too_deep, tree_given, parts_in, parts_given, leaf_in, leaf_given, delta_given, given}
+use Rattle.json_model.specs.Values.{GivesDelta}
+use Rattle.subdoc_step.proofs.Given.{delta_told}
 use Rattle.subdoc_step.specs.Answers.{◌>>=◌, formed, edited_tree, edited}
 
 -- a number within 64 bits, where there is one
@@ -172,12 +171,12 @@ leaf_fits : (r : Result Document Stop) → GivenFits (leaf_given add_unique r)
 leaf_fits (Ok d) = leaf_in_fits d.tree
 leaf_fits (Err stop) = tt
 
-delta_when : (b : Bool) (n : ℤ) → (b ≡ true → fits_i64 n ≡ true) → GivenFits (if b then Ok (counter n) else Err status.DELTA_EINVAL)
-delta_when true n h = h refl
-delta_when false n h = tt
+gives_fits : (bytes : List ℕ) (r : Result Asked Status) → GivesDelta bytes r → GivenFits r
+gives_fits bytes r (inl (n, is, e)) = subst GivenFits (sym e) is.fits
+gives_fits bytes r (inr (none, e)) = subst GivenFits (sym e) tt
 
 delta_fits : (bytes : List ℕ) → GivenFits (delta_given bytes)
-delta_fits bytes = delta_when (is_delta (signed_digits_value 10 bytes) bytes) (signed_digits_value 10 bytes) (λ e. (and_parts _ _ (and_parts _ _ e).1).1)
+delta_fits bytes = gives_fits bytes (delta_given bytes) (delta_told bytes)
 
 given_fits : (edit : Edit) (bytes : List ℕ) → GivenFits (given edit bytes)
 unfolding given

@@ -1,22 +1,20 @@
 -- What a look-up finds is no longer than the text, but for the decimal text of a count.
-use Rattle.std.specs.Prelude.{◌≡◌, ℕ, zero, suc, ◌+◌, ◌^◌, ◌<◌, ◌≤◌, List, [], ◌∷◌, ◌++◌, length, Option, Some, None, Result, Ok, Err, refl}
+use Rattle.std.specs.Prelude.{◌≡◌, ℕ, zero, suc, ◌+◌, ◌^◌, ◌<◌, ◌≤◌, List, [], ◌++◌, length, Some, Ok}
 use Rattle.std.specs.Fmt.{decimal}
-use Rattle.std.proofs.Common.{arith, sym, ap, subst, inl, inr, ◌∙◌}
+use Rattle.std.proofs.Common.{arith, sym, ap, subst, inl, inr}
 use Rattle.std.proofs.lemmas.List.{length-append}
-use Rattle.doc_model.specs.declared.status.Status.{Status}
 use Rattle.json_model.specs.declared.TheConstants.{MOST_DEEP}
 use Rattle.json_model.specs.declared.asked.Part.{Part}
 use Rattle.json_model.specs.declared.asked.Lookup.{Lookup}
 use Rattle.json_model.specs.declared.asked.Lookup.TheVariants as lookups
-use Rattle.json_model.specs.Spelled.{Tree, leaf, empty, group, Parts, last, more, Document, IsText, text, parts_text, document_text, count, head_text}
+use Rattle.json_model.specs.Spelled.{Tree, leaf, empty, group, Parts, last, more, Document, IsText, text, parts_text, document_text, count}
 use Rattle.json_model.specs.Follow.{Outcome, reached, missing, mismatch, child, Follows}
-use Rattle.json_model.specs.Splices.{Reaches, here, there, Around}
+use Rattle.json_model.specs.Splices.{Reaches, here, there}
 use Rattle.json_model.specs.Edit.{looked, look_at}
 use Rattle.subdoc_step.specs.Answers.{looked_up}
 use Rattle.std.proofs.lemmas.Fmt.{length-decimal-le_succ}
 use Rattle.json_model.proofs.Following.{reached_trail}
 use Rattle.json_model.specs.Order.{First, Looks, LooksTree, ReadsText}
-use Rattle.json_model.specs.Paths.{ReadsPath}
 use Rattle.subdoc_step.proofs.Texts.{text_only, read_is}
 use Rattle.subdoc_step.proofs.Looked.{looked_answered}
 
