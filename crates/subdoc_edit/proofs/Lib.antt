@@ -2,3 +2,5 @@ pub mod Spots
 pub mod Pieces
 pub mod Looks
 pub mod Once
+pub mod Splices
+pub mod Placed

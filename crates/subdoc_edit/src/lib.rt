@@ -17,8 +17,12 @@
 #![tactic(auto)]
 
 mod kinds;
+mod parents;
+mod places;
 mod looking;
 mod reading;
+mod values;
+mod walking;
 
 pub use looking::{Piece, look, one_answer};
 

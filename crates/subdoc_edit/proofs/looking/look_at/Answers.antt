@@ -34,7 +34,7 @@ returns-in-Missing c =
     let s = c.in_ok-spans.ensures in
     nowhere c.args.lookup c.args.text.now c.args.path.now c.in_ok-path.path s.0 c.in-Missing.field-0 c.in_ok-path.ensures s.1 (c.in-Missing.ensures s.0 s.1)
 
-pub returns-in-Mismatch : goal.returns-in-Mismatch
-returns-in-Mismatch c =
+pub returns : goal.returns
+returns c =
     let s = c.in_ok-spans.ensures in
     elsewhere c.args.lookup c.args.text.now c.args.path.now c.in_ok-path.path s.0 c.in-Mismatch.field-0 c.in_ok-path.ensures s.1 (c.in-Mismatch.ensures s.0 s.1)
