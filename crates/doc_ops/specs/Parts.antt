@@ -1,5 +1,5 @@
 -- What looking at a text and editing it came to.
-use Rattle.std.specs.Prelude.{◌≡◌, ℕ, Bool, List, Some, Result, Ok, Err}
+use Rattle.std.specs.Prelude.{◌≡◌, ℕ, Bool, true, List, Some, Result, Ok, Err}
 use Rattle.doc_model.specs.declared.status.Status.{Status}
 use Rattle.doc_model.specs.declared.status.Refused.{Refused}
 use Rattle.doc_model.specs.declared.status.Refused.TheVariants as refusals
@@ -10,7 +10,11 @@ use Rattle.json_model.specs.Order.{EditedText}
 use Rattle.kv_request.specs.declared.request.Spec.{Spec}
 use Rattle.subdoc_step.specs.Answers.{looked_up, edited}
 use Rattle.subdoc_edit.specs.declared.editing.Edited.{Edited}
-use Rattle.doc_step.specs.Step.{json_of}
+use Rattle.doc_model.specs.declared.document.Doc.{Doc}
+use Rattle.kv_request.specs.declared.request.Request.{Request}
+use Rattle.doc_step.specs.declared.Change.{Change}
+use Rattle.doc_step.specs.Expiry.{Setting}
+use Rattle.doc_step.specs.Step.{json_of, edit_made, Plans}
 
 -- a step was answered, unless memory was refused
 abbrev pub Answers : {A : Type 0} → Result A Status → Result A Refused → Type 0
@@ -28,3 +32,7 @@ EditsText spec several text (Ok e) =
     (json_of e.text ≡ true) × ((edit : Edit) → edit_of spec.opcode ≡ Some edit → edited edit several text spec.path spec.value ≡ Ok (record { text = e.text; number = e.number }))
 EditsText spec several text (Err (refusals.Status s)) = (edit : Edit) → edit_of spec.opcode ≡ Some edit → edited edit several text spec.path spec.value ≡ Err s
 EditsText spec several text (Err refusals.NoMemory) = Unit {0}
+
+-- what the edit of this opcode makes of a document
+abbrev pub MakesOf : Setting → Request → Spec → Bool → Doc → Result Change Refused → Type 0
+MakesOf s request spec several doc result = (edit : Edit) → edit_of spec.opcode ≡ Some edit → Plans (edit_made s request spec several edit (Ok doc)) result

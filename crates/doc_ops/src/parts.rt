@@ -1,13 +1,13 @@
 //! Look-ups and edits of a part of the document that is there.
 
-ghost use Rattle.std.specs.Prelude.{◌≡◌, Err, IfOk, IsSome};
+ghost use Rattle.std.specs.Prelude.{◌≡◌, ℕ, List, Ok, Err, true, IfOk, IsSome};
 ghost use Rattle.std.specs.Option.{option_copied, option_map_or};
 ghost use Rattle.doc_model.specs.declared.status.TheConstants.Status as status;
-ghost use Rattle.json_model.specs.Edit.{lookup_of, edit_of};
+ghost use Rattle.json_model.specs.Edit.{lookup_of, edit_of, makes_parents};
 ghost use Rattle.subdoc_edit.specs.Looking.{IsWithin, piece_text};
-ghost use Rattle.doc_step.specs.Step.{look_step, edit_step, first_text, makes_several, number_text, with_expiry, with_value, begun_doc, Plans};
+ghost use Rattle.doc_step.specs.Step.{look_step, edit_step, first_text, makes_several, json_of, storing, number_text, with_expiry, with_value, begun_doc, Plans};
 ghost use Rattle.doc_ops.specs.Planning.{setting_of};
-ghost use Rattle.doc_ops.specs.Parts.{LooksUp, EditsText};
+ghost use Rattle.doc_ops.specs.Parts.{LooksUp, EditsText, MakesOf};
 
 use crate::expiry::{Setting, expiry_of};
 use crate::replies::{changing, storing};
@@ -47,8 +47,13 @@ fn found(alloc: Global, spec: &Spec, text: &[u8]) -> Result<Bytes, Refused>
     requires { IsSome (lookup_of spec.now.opcode) }
     ensures { LooksUp spec.now text.now result }
 {
-    let piece = look(alloc, spec.opcode, text, spec.path.as_slice())?;
-    Ok(piece_bytes(alloc, text, piece)?)
+    match look(alloc, spec.opcode, text, spec.path.as_slice()) {
+        Err(refused) => Err(refused),
+        Ok(piece) => match piece_bytes(alloc, text, piece) {
+            Err(NoMemory) => Err(Refused::NoMemory),
+            Ok(bytes) => Ok(bytes),
+        },
+    }
 }
 
 /// The bytes that a piece stands for: those of the text between its places, or a count in decimal.
@@ -88,16 +93,55 @@ pub(crate) fn edit_at(
             if doc_flags == 0 {
                 return Err(Refused::Status(Status::KEY_ENOENT));
             }
-            let text = first_text(spec.path.as_slice());
-            let edited = edit_text(alloc, spec, several, text)?;
-            let made = begun(alloc, setting, expiry, edited.text);
-            Ok(stored(alloc, request, made, edited.number)?)
+            edit_begun(alloc, setting, request, spec, expiry, several)
         }
         Some(doc) => {
             if doc_flags == ADDS_DOCUMENT {
                 return Err(Refused::Status(Status::KEY_EEXISTS));
             }
-            let edited = edit_text(alloc, spec, several, doc.value.as_slice())?;
+            edit_kept(alloc, setting, request, spec, expiry, several, doc)
+        }
+    }
+}
+
+/// An edit of a new document.
+fn edit_begun(
+    alloc: Global,
+    setting: Setting,
+    request: &Request,
+    spec: &Spec,
+    expiry: Option<u32>,
+    several: bool,
+) -> Result<Change, Refused>
+    requires { IsSome (edit_of spec.now.opcode) }
+    ensures { MakesOf (setting_of setting) request.now spec.now several (begun_doc (setting_of setting) expiry spec.now.path) result }
+{
+    let text = first_text(spec.path.as_slice());
+    match edit_text(alloc, spec, several, text) {
+        Err(refused) => Err(refused),
+        Ok(edited) => {
+            let made = begun(alloc, setting, expiry, edited.text);
+            Ok(stored(alloc, request, made, edited.number)?)
+        }
+    }
+}
+
+/// An edit of a document that is there.
+fn edit_kept(
+    alloc: Global,
+    setting: Setting,
+    request: &Request,
+    spec: &Spec,
+    expiry: Option<u32>,
+    several: bool,
+    doc: &Doc,
+) -> Result<Change, Refused>
+    requires { IsSome (edit_of spec.now.opcode) }
+    ensures { MakesOf (setting_of setting) request.now spec.now several (with_expiry (setting_of setting) expiry doc.now) result }
+{
+    match edit_text(alloc, spec, several, doc.value.as_slice()) {
+        Err(refused) => Err(refused),
+        Ok(edited) => {
             let made = kept(alloc, setting, expiry, doc, edited.text)?;
             Ok(stored(alloc, request, made, edited.number)?)
         }
@@ -127,9 +171,15 @@ fn edit_text(alloc: Global, spec: &Spec, several: bool, text: &[u8]) -> Result<E
     requires { IsSome (edit_of spec.now.opcode) }
     ensures { EditsText spec.now several text.now result }
 {
-    let flags = if several { MAKES_PARENTS } else { 0 };
     let path = spec.path.as_slice();
-    edit(alloc, spec.opcode, flags, text, path, spec.value.as_slice())
+    edit(alloc, spec.opcode, path_flags(several), text, path, spec.value.as_slice())
+}
+
+/// The flags of a path of which several parts may be absent, or one.
+fn path_flags(several: bool) -> u8
+    ensures { makes_parents result ≡ several }
+{
+    if several { MAKES_PARENTS } else { 0 }
 }
 
 /// A new document with a text that an edit left, which is JSON.
