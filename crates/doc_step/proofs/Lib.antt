@@ -1,3 +1,4 @@
 pub mod Counting
 pub mod Small
 pub mod Drawn
+pub mod Kept

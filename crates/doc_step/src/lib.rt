@@ -14,6 +14,11 @@
 //! | Append, Prepend | none there: NotStored; the result past the limit: E2big | flags, expiry and attributes are kept |
 //! | Increment, Decrement | none there and the expiry ffffffff: KeyEnoent; no number: DeltaBadval | none there: the initial value with flags 0 and the expiry; else the number counted up, past 2^64 - 1 on from 0, or down, to 0 and no further, written without leading zeros; flags, expiry and attributes are kept |
 //! | Touch, get and touch | none there: KeyEnoent | the expiry alone |
+//! | a look at a part | none there: KeyEnoent; what `subdoc_step` refuses | none |
+//! | an edit of a part | none there: KeyEnoent, unless the request makes one; one there: KeyEexists, where the request says so; what `subdoc_step` refuses | the edited value; flags and attributes are kept, and the expiry unless the request gives one |
+//!
+//! A document that a request makes begins as `[]`, where the path is empty or begins with an index, else as `{}`, with
+//! flags 0. Whether a value is JSON text is computed at each change.
 //!
 //! A number is a text of 1 to 20 decimal digits below 2^64. Each effect carries the CAS that is drawn for it.
 //!
@@ -27,7 +32,8 @@ use doc_model::Doc;
 use kv_request::Reply;
 pub use laws::{
     adding_keeps_what_is_there, cas_guards_changes, changes_carry_the_draw, count_up_and_down,
-    expired_is_absent, joining_keeps_the_rest, refusals_change_nothing, small_stays_small,
+    editing_keeps_the_rest, edits_make_no_documents_unasked, expired_is_absent,
+    joining_keeps_the_rest, looking_changes_nothing, refusals_change_nothing, small_stays_small,
     step_numbers, touching_keeps_the_value,
 };
 

@@ -2,5 +2,3 @@ pub mod Spots
 pub mod Pieces
 pub mod Looks
 pub mod Once
-pub mod Splices
-pub mod Placed

@@ -16,15 +16,13 @@
 //! | 00c0 | a name or an index of nothing that is there |
 #![tactic(auto)]
 
+mod editing;
 mod kinds;
-mod parents;
-mod places;
 mod looking;
 mod reading;
-mod values;
-mod walking;
 
-pub use looking::{Piece, look, one_answer};
+pub use editing::{Edited, edit, edit_of};
+pub use looking::{Piece, look, lookup_of, one_answer};
 
 #[cfg(test)]
 mod tests;
