@@ -82,4 +82,8 @@ pub use request::{Body, Durability, Features, Mode, Request, Spec};
 pub use writing::{reply_into, write_reply};
 
 #[cfg(test)]
+mod part_tests;
+#[cfg(test)]
+mod reply_tests;
+#[cfg(test)]
 mod tests;

@@ -1,30 +1,44 @@
-ghost use Rattle.std.specs.Prelude.{◌≡◌, IfOk};
-
-use crate::{Body, Durability, Features, Mode, Reply, Request, read_request, refusal, write_reply};
-use doc_model::{DocKey, Refused, Status};
+use crate::{Body, Features, Mode, Request, read_request};
+use doc_model::{Refused, Status};
 use hex_rows::bytes_of;
 use kv_edge::{Bytes, NoMemory, Seq};
 use kv_frame::{Frame, Magic, Side, Step, decode};
 use std::alloc::Global;
 use std::test::Fail;
 
-const NOTHING_GRANTED: Features = Features {
+pub(crate) const NOTHING: Features = Features {
     token: false,
     json: false,
     collections: false,
 };
 
-const COLLECTIONS_GRANTED: Features = Features {
+const COLLECTIONS: Features = Features {
     token: false,
     json: false,
     collections: true,
 };
 
-const ALL_GRANTED: Features = Features {
-    token: true,
-    json: true,
-    collections: true,
-};
+/// The status of a frame that is a request.
+pub(crate) const READ: u16 = 0x0000;
+
+const E2BIG: u16 = 0x0003;
+
+pub(crate) const EINVAL: u16 = 0x0004;
+
+const UNKNOWN_COMMAND: u16 = 0x0081;
+
+pub(crate) const NOT_SUPPORTED: u16 = 0x0083;
+
+const INVALID_LEVEL: u16 = 0x00a0;
+
+/// Level and timeout where no level is asked for, or where the frame is refused.
+const NO_LEVEL: (u8, u16) = (0, 0);
+
+/// The expiry of an edit that has none.
+const NO_EXPIRY: u64 = 0x1_0000_0000;
+
+/// What stands for a key that is refused: no name is so long.
+const REFUSED: (u32, usize) = (0, 1000);
 
 /// The frame that all of the bytes are.
 fn frame_of(alloc: Global, text: &str) -> Result<Frame, Fail> {
@@ -35,8 +49,14 @@ fn frame_of(alloc: Global, text: &str) -> Result<Frame, Fail> {
     }
 }
 
-/// A frame without a value, with this many bytes 00 as its extras and this many letters as its key.
-fn frame_with(alloc: Global, opcode: u8, extras: usize, key: usize) -> Result<Frame, NoMemory> {
+/// A frame with this many bytes 00 as its extras, letters as its key and blanks as its value.
+pub(crate) fn frame_with(
+    alloc: Global,
+    opcode: u8,
+    extras: usize,
+    key: usize,
+    value: usize,
+) -> Result<Frame, NoMemory> {
     Ok(Frame {
         magic: Magic::Request,
         opcode,
@@ -47,138 +67,271 @@ fn frame_with(alloc: Global, opcode: u8, extras: usize, key: usize) -> Result<Fr
         framing: Seq::new(alloc),
         extras: Bytes::from_vec(vec![in alloc; 0u8; extras]?),
         key: Bytes::from_vec(vec![in alloc; b'k'; key]?),
-        value: Bytes::new(alloc),
+        value: Bytes::from_vec(vec![in alloc; b' '; value]?),
     })
 }
 
-/// The status that a frame is refused with, and 0 where a request is read, with the durability that it asks for.
-fn outcome(alloc: Global, frame: &Frame) -> Result<(u16, Option<Durability>), NoMemory> {
-    match read_request(alloc, frame, &NOTHING_GRANTED) {
-        Ok(made) => Ok((0x0000, made.durability)),
-        Err(Refused::Status(status)) => Ok((status.code, None)),
+/// The status that a frame is refused with, or READ with level and timeout that are asked for.
+pub(crate) fn outcome(
+    alloc: Global,
+    frame: &Frame,
+    features: &Features,
+) -> Result<(u16, (u8, u16)), NoMemory> {
+    match read_request(alloc, frame, features) {
+        Ok(made) => match made.durability {
+            Some(asked) => Ok((READ, (asked.level, asked.timeout))),
+            None => Ok((READ, NO_LEVEL)),
+        },
+        Err(Refused::Status(status)) => Ok((status.code, NO_LEVEL)),
         Err(Refused::NoMemory) => Err(NoMemory),
     }
 }
 
-fn key(alloc: Global, letters: &[u8]) -> Result<DocKey, NoMemory>
-    ensures { IfOk result (λ key. key.key ≡ letters.now) }
-{
-    Ok(DocKey {
-        collection: 0,
-        key: Bytes::from_slice(alloc, letters)?,
-    })
-}
-
-#[test]
-fn a_get_is_read_with_all_its_parts(rt: HostRuntime) -> Result<(), Fail> {
-    let alloc = rt.alloc();
-    let text = "80 00 0001 00 00 0000 00000001 deadbeef 0000000000000000 61";
-    let get = frame_of(alloc, text)?;
-    let wanted = Request {
-        opcode: 0x00,
-        opaque: 0xdead_beef,
-        cas: 0,
-        vbucket: 0,
-        durability: None,
-        body: Body::Get {
-            key: key(alloc, b"a")?,
-        },
-    };
-    assert_eq!(rt; read_request(alloc, &get, &NOTHING_GRANTED)?, wanted);
-    Ok(())
-}
-
-#[test]
-fn a_get_in_a_collection_is_read_with_all_its_parts(rt: HostRuntime) -> Result<(), Fail> {
-    let alloc = rt.alloc();
-    let text = "80 00 0002 00 00 0000 00000002 deadbeef 0000000000000000 0861";
-    let get = frame_of(alloc, text)?;
-    let wanted = Request {
-        opcode: 0x00,
-        opaque: 0xdead_beef,
-        cas: 0,
-        vbucket: 0,
-        durability: None,
-        body: Body::Get {
-            key: DocKey {
-                collection: 8,
-                key: Bytes::from_slice(alloc, b"a")?,
-            },
-        },
-    };
-    assert_eq!(rt; read_request(alloc, &get, &COLLECTIONS_GRANTED)?, wanted);
-    Ok(())
-}
-
-#[test]
-fn a_quiet_set_is_read_with_all_its_parts(rt: HostRuntime) -> Result<(), Fail> {
-    let alloc = rt.alloc();
-    let text = "80 11 0001 08 01 03ff 0000000b 00000001 0102030405060708 0000002a 00000e10 61 6869";
-    let set = frame_of(alloc, text)?;
-    let wanted = Request {
-        opcode: 0x11,
-        opaque: 1,
-        cas: 0x0102_0304_0506_0708,
-        vbucket: 1023,
-        durability: None,
-        body: Body::Store {
-            key: key(alloc, b"a")?,
-            mode: Mode::Set,
-            flags: 42,
-            expiry: 3600,
-            value: Bytes::from_slice(alloc, b"hi")?,
-        },
-    };
-    assert_eq!(rt; read_request(alloc, &set, &NOTHING_GRANTED)?, wanted);
-    Ok(())
-}
-
-#[test]
-fn an_increment_is_read_with_its_three_numbers(rt: HostRuntime) -> Result<(), Fail> {
-    let alloc = rt.alloc();
-    let text =
-        "80 05 0001 14 00 0000 00000015 00000001 0000000000000000 0000000000000001 0000000000000005 00000000 6e";
-    let increment = frame_of(alloc, text)?;
-    let wanted = Body::Count {
-        key: key(alloc, b"n")?,
-        up: true,
-        delta: 1,
-        initial: 5,
-        expiry: 0,
-    };
-    let made = read_request(alloc, &increment, &NOTHING_GRANTED)?;
-    assert_eq!(rt; made.body, wanted);
-    Ok(())
-}
-
-/// A name for what is asked for.
-fn kind(body: &Body) -> &'static str {
-    match body {
-        Body::Hello { .. } => "hello",
-        Body::Noop => "noop",
-        Body::Version => "version",
-        Body::Quit => "quit",
-        Body::Get { .. } => "get",
-        Body::Store { mode, .. } => match mode {
-            Mode::Set => "set",
-            Mode::Add => "add",
-            Mode::Replace => "replace",
-        },
-        Body::Delete { .. } => "delete",
-        Body::Count { up: true, .. } => "up",
-        Body::Count { up: false, .. } => "down",
-        Body::Join { front: true, .. } => "before",
-        Body::Join { front: false, .. } => "behind",
-        Body::Touch { fetch: true, .. } => "touch and get",
-        Body::Touch { fetch: false, .. } => "touch",
-        Body::SetManifest { .. } => "set manifest",
-        Body::GetManifest => "get manifest",
-        Body::CollectionId { .. } => "collection",
-        Body::ScopeId { .. } => "scope",
+/// The request that a frame is.
+fn request_of(alloc: Global, frame: &Frame, features: &Features) -> Result<Request, Fail> {
+    match read_request(alloc, frame, features) {
+        Ok(made) => Ok(made),
+        Err(_) => Err("the frame is refused")?,
     }
 }
 
-/// Opcodes with the lengths of extras and key that they ask for, and what is read.
+/// What a request asks for: its opcode, opaque, CAS and vbucket.
+type Head = (u8, u32, u64, u16);
+
+/// What a request brings: a name for what is asked for, its numbers in the order of its fields, the
+/// collection and the name of its key, a path, and a value.
+type Brought<'a> = (&'static str, [u64; 4], u32, &'a str, &'a str, &'a str);
+
+/// A name for what is asked for, and its numbers in the order of its fields.
+fn kind(body: &Body) -> (&'static str, [u64; 4]) {
+    match body {
+        Body::Hello { wanted } => match wanted.as_slice() {
+            [first, second] => ("hello", [u64::from(*first), u64::from(*second), 0, 0]),
+            _ => ("hello", [0; 4]),
+        },
+        Body::Noop => ("noop", [0; 4]),
+        Body::Version => ("version", [0; 4]),
+        Body::Quit => ("quit", [0; 4]),
+        Body::Get { .. } => ("get", [0; 4]),
+        Body::Store {
+            mode,
+            flags,
+            expiry,
+            ..
+        } => {
+            let name = match mode {
+                Mode::Set => "set",
+                Mode::Add => "add",
+                Mode::Replace => "replace",
+            };
+            (name, [u64::from(*flags), u64::from(*expiry), 0, 0])
+        }
+        Body::Delete { .. } => ("delete", [0; 4]),
+        Body::Count {
+            up,
+            delta,
+            initial,
+            expiry,
+            ..
+        } => {
+            let name = if *up { "up" } else { "down" };
+            (name, [*delta, *initial, u64::from(*expiry), 0])
+        }
+        Body::Join { front, .. } => (if *front { "before" } else { "behind" }, [0; 4]),
+        Body::Touch { fetch, expiry, .. } => {
+            let name = if *fetch { "touch and get" } else { "touch" };
+            (name, [u64::from(*expiry), 0, 0, 0])
+        }
+        Body::Look { spec, .. } => {
+            (
+                "look",
+                [u64::from(spec.opcode), u64::from(spec.flags), 0, 0],
+            )
+        }
+        Body::Edit {
+            spec,
+            expiry,
+            doc_flags,
+            ..
+        } => {
+            let expiry = match expiry {
+                Some(expiry) => u64::from(*expiry),
+                None => NO_EXPIRY,
+            };
+            let flags = u64::from(spec.flags);
+            (
+                "edit",
+                [u64::from(spec.opcode), flags, expiry, u64::from(*doc_flags)],
+            )
+        }
+        Body::SetManifest { .. } => ("set manifest", [0; 4]),
+        Body::GetManifest => ("get manifest", [0; 4]),
+        Body::CollectionId { .. } => ("collection", [0; 4]),
+        Body::ScopeId { .. } => ("scope", [0; 4]),
+    }
+}
+
+/// The collection and the name of a request's key.
+fn key(body: &Body) -> (u32, &[u8]) {
+    match body {
+        Body::Get { key }
+        | Body::Store { key, .. }
+        | Body::Delete { key }
+        | Body::Count { key, .. }
+        | Body::Join { key, .. }
+        | Body::Touch { key, .. }
+        | Body::Look { key, .. }
+        | Body::Edit { key, .. } => (key.collection, key.key.as_slice()),
+        _ => (0, b""),
+    }
+}
+
+/// The path and the value that a request brings.
+fn texts(body: &Body) -> (&[u8], &[u8]) {
+    match body {
+        Body::Store { value, .. } | Body::Join { value, .. } => (b"", value.as_slice()),
+        Body::SetManifest { text } => (b"", text.as_slice()),
+        Body::CollectionId { path } | Body::ScopeId { path } => (path.as_slice(), b""),
+        Body::Look { spec, .. } | Body::Edit { spec, .. } => {
+            (spec.path.as_slice(), spec.value.as_slice())
+        }
+        _ => (b"", b""),
+    }
+}
+
+/// Whether a request brings this.
+fn brings(body: &Body, wanted: &Brought<'_>) -> bool {
+    let (name, collection) = (wanted.3.as_bytes(), wanted.2);
+    kind(body) == (wanted.0, wanted.1)
+        && key(body) == (collection, name)
+        && texts(body) == (wanted.4.as_bytes(), wanted.5.as_bytes())
+}
+
+/// Frames with what they are read as, where collections are granted or not.
+const READINGS: [(&str, bool, Head, Brought<'static>); 16] = [
+    (
+        "80 00 0001 00 00 0000 00000001 deadbeef 0000000000000000 61",
+        false,
+        (0x00, 0xdead_beef, 0, 0),
+        ("get", [0; 4], 0, "a", "", ""),
+    ),
+    (
+        "80 00 0002 00 00 0000 00000002 deadbeef 0000000000000000 0861",
+        true,
+        (0x00, 0xdead_beef, 0, 0),
+        ("get", [0; 4], 8, "a", "", ""),
+    ),
+    (
+        "80 11 0001 08 01 03ff 0000000b 00000001 0102030405060708 0000002a 00000e10 61 6869",
+        false,
+        (0x11, 1, 0x0102_0304_0506_0708, 1023),
+        ("set", [42, 3600, 0, 0], 0, "a", "", "hi"),
+    ),
+    (
+        "80 05 0001 14 00 0000 00000015 00000001 0000000000000000 0000000000000001 0000000000000005 00000000 6e",
+        false,
+        (0x05, 1, 0, 0),
+        ("up", [1, 5, 0, 0], 0, "n", "", ""),
+    ),
+    (
+        "80 1f 0001 00 00 0000 00000005 00000001 0000000000000000 61 0004 0110",
+        false,
+        (0x1f, 1, 0, 0),
+        ("hello", [4, 272, 0, 0], 0, "", "", ""),
+    ),
+    (
+        "80 b9 0000 00 00 0000 00000002 00000001 0000000000000000 7b7d",
+        true,
+        (0xb9, 1, 0, 0),
+        ("set manifest", [0; 4], 0, "", "", "{}"),
+    ),
+    (
+        "80 bb 0003 00 00 0000 00000003 00000001 0000000000000000 732e63",
+        true,
+        (0xbb, 1, 0, 0),
+        ("collection", [0; 4], 0, "", "s.c", ""),
+    ),
+    (
+        "80 bb 0000 00 00 0000 00000003 00000001 0000000000000000 732e63",
+        true,
+        (0xbb, 1, 0, 0),
+        ("collection", [0; 4], 0, "", "s.c", ""),
+    ),
+    (
+        "80 bc 0003 00 00 0000 00000003 00000001 0000000000000000 732e63",
+        true,
+        (0xbc, 1, 0, 0),
+        ("scope", [0; 4], 0, "", "s.c", ""),
+    ),
+    (
+        "80 bc 0000 00 00 0000 00000003 00000001 0000000000000000 732e63",
+        true,
+        (0xbc, 1, 0, 0),
+        ("scope", [0; 4], 0, "", "s.c", ""),
+    ),
+    (
+        "80 c5 0001 03 00 0000 00000007 00000001 0000000000000000 0003 00 61 622e63",
+        false,
+        (0xc5, 1, 0, 0),
+        ("look", [0xc5, 0, 0, 0], 0, "a", "b.c", ""),
+    ),
+    (
+        "80 d2 0001 04 00 0000 00000005 00000001 0000000000000000 0000 00 00 61",
+        false,
+        (0xd2, 1, 0, 0),
+        ("look", [0xd2, 0, 0, 0], 0, "a", "", ""),
+    ),
+    (
+        "80 c8 0001 03 00 0000 00000007 00000001 0000000000000007 0001 01 61 62 3132",
+        false,
+        (0xc8, 1, 7, 0),
+        ("edit", [0xc8, 1, NO_EXPIRY, 0], 0, "a", "b", "12"),
+    ),
+    (
+        "80 c9 0001 04 00 0000 00000008 00000001 0000000000000000 0003 00 02 61 622e63",
+        false,
+        (0xc9, 1, 0, 0),
+        ("edit", [0xc9, 0, NO_EXPIRY, 2], 0, "a", "b.c", ""),
+    ),
+    (
+        "80 ca 0002 07 00 0000 0000000c 00000001 0000000000000000 0001 00 00000e10 0861 62 3132",
+        true,
+        (0xca, 1, 0, 0),
+        ("edit", [0xca, 0, 3600, 0], 8, "a", "b", "12"),
+    ),
+    (
+        "80 cf 0001 08 00 0000 0000000d 00000001 0000000000000000 0002 01 00000000 01 61 6263 2d35",
+        false,
+        (0xcf, 1, 0, 0),
+        ("edit", [0xcf, 1, 0, 1], 0, "a", "bc", "-5"),
+    ),
+];
+
+/// The place of the first frame that is read as another request.
+fn first_misread(
+    alloc: Global,
+    rows: &[(&str, bool, Head, Brought<'_>)],
+) -> Result<Option<usize>, Fail> {
+    for (place, row) in rows.iter().enumerate() {
+        let features = if row.1 { COLLECTIONS } else { NOTHING };
+        let frame = frame_of(alloc, row.0)?;
+        let made = request_of(alloc, &frame, &features)?;
+        let head = (made.opcode, made.opaque, made.cas, made.vbucket);
+        if head != row.2 || !brings(&made.body, &row.3) {
+            return Ok(Some(place));
+        }
+    }
+    Ok(None)
+}
+
+#[test]
+fn frames_are_read_with_all_their_parts(rt: HostRuntime) -> Result<(), Fail> {
+    assert_eq!(rt; first_misread(rt.alloc(), &READINGS)?, None);
+    Ok(())
+}
+
+/// Opcodes but for those on parts of documents, with the lengths of extras and key that they ask
+/// for, and what is read.
 const OPCODES: [(u8, usize, usize, &str); 30] = [
     (0x00, 0, 1, "get"),
     (0x01, 8, 1, "set"),
@@ -212,427 +365,349 @@ const OPCODES: [(u8, usize, usize, &str); 30] = [
     (0xbc, 0, 1, "scope"),
 ];
 
+/// The place of the first opcode that asks for something else, or that takes extras of 21 bytes, as
+/// no opcode does.
+fn first_other(alloc: Global, rows: &[(u8, usize, usize, &str)]) -> Result<Option<usize>, Fail> {
+    for (place, row) in rows.iter().enumerate() {
+        let frame = frame_with(alloc, row.0, row.1, row.2, 0)?;
+        let longer = frame_with(alloc, row.0, 21, row.2, 0)?;
+        let made = request_of(alloc, &frame, &NOTHING)?;
+        if kind(&made.body).0 != row.3 || outcome(alloc, &longer, &NOTHING)?.0 != EINVAL {
+            return Ok(Some(place));
+        }
+    }
+    Ok(None)
+}
+
 #[test]
 fn each_opcode_asks_for_its_own(rt: HostRuntime) -> Result<(), Fail> {
-    let alloc = rt.alloc();
-    for (opcode, extras, letters, wanted) in OPCODES {
-        let frame = frame_with(alloc, opcode, extras, letters)?;
-        let made = read_request(alloc, &frame, &NOTHING_GRANTED)?;
-        assert_eq!(rt; kind(&made.body), wanted, "{opcode:02x}");
-        // No request has as many extras.
-        let longer = frame_with(alloc, opcode, 21, letters)?;
-        assert_eq!(rt; outcome(alloc, &longer)?, (0x0004, None), "{opcode:02x}");
-    }
+    assert_eq!(rt; first_other(rt.alloc(), &OPCODES)?, None);
     Ok(())
 }
 
-/// Frames with framing extras, by what they show: the status, and level and timeout where they pass.
-const LEVELS: [(&str, &str, u16, Option<(u8, u16)>); 11] = [
+/// Frames by what they show, with the status, and level and timeout where a level is asked for.
+const STATUSES: [(&str, &str, u16, (u8, u16)); 35] = [
     (
         "alone",
         "08 01 02 01 08 00 0000 0000000c 00000005 0000000000000000 1101 0000000000000000 61 31",
-        0x0000,
-        Some((1, 30_000)),
+        READ,
+        (1, 30_000),
     ),
     (
         "with a timeout",
         "08 01 04 01 08 00 0000 0000000e 00000005 0000000000000000 13011388 0000000000000000 61 31",
-        0x0000,
-        Some((1, 5_000)),
+        READ,
+        (1, 5_000),
     ),
     (
         "the greatest, behind an extra of another id",
         "08 01 04 01 08 00 0000 0000000e 00000005 0000000000000000 21041103 0000000000000000 61 31",
-        0x0000,
-        Some((3, 30_000)),
+        READ,
+        (3, 30_000),
     ),
     (
         "none among extras of other ids",
         "08 01 02 01 08 00 0000 0000000c 00000005 0000000000000000 2104 0000000000000000 61 31",
-        0x0000,
-        None,
+        READ,
+        NO_LEVEL,
     ),
     (
         "timeout 0",
         "08 01 04 01 08 00 0000 0000000e 00000005 0000000000000000 13010000 0000000000000000 61 31",
-        0x0004,
-        None,
+        EINVAL,
+        NO_LEVEL,
     ),
     (
         "timeout 0 of a level that isn't there",
         "08 01 04 01 08 00 0000 0000000e 00000005 0000000000000000 13040000 0000000000000000 61 31",
-        0x0004,
-        None,
+        EINVAL,
+        NO_LEVEL,
     ),
     (
         "a fourth",
         "08 01 02 01 08 00 0000 0000000c 00000005 0000000000000000 1104 0000000000000000 61 31",
-        0x00a0,
-        None,
+        INVALID_LEVEL,
+        NO_LEVEL,
     ),
     (
         "level 0, without the extras of a Set",
         "08 01 02 01 00 00 0000 00000003 00000005 0000000000000000 1100 61",
-        0x00a0,
-        None,
+        INVALID_LEVEL,
+        NO_LEVEL,
     ),
     (
         "of two bytes",
         "08 01 03 01 08 00 0000 0000000d 00000005 0000000000000000 120113 0000000000000000 61 31",
-        0x0004,
-        None,
+        EINVAL,
+        NO_LEVEL,
     ),
     (
         "twice",
         "08 01 04 01 08 00 0000 0000000e 00000005 0000000000000000 11011101 0000000000000000 61 31",
-        0x0004,
-        None,
+        EINVAL,
+        NO_LEVEL,
     ),
     (
         "on a Get",
         "08 00 02 01 00 00 0000 00000003 00000005 0000000000000000 1101 61",
-        0x0004,
-        None,
+        EINVAL,
+        NO_LEVEL,
     ),
-];
-
-#[test]
-fn a_level_is_read_or_refused(rt: HostRuntime) -> Result<(), Fail> {
-    let alloc = rt.alloc();
-    for (name, text, status, level) in LEVELS {
-        let wanted = level.map(|(level, timeout)| Durability { level, timeout });
-        let frame = frame_of(alloc, text)?;
-        assert_eq!(rt; outcome(alloc, &frame)?, (status, wanted), "{name}");
-    }
-    Ok(())
-}
-
-/// Frames by what is wrong with them, and the status.
-const FIRST_FAULTS: [(&str, &str, u16); 20] = [
     (
         "the first opcode of streams, datatype 2",
         "80 50 0000 00 02 0000 00000000 00000001 0000000000000000",
-        0x0083,
+        NOT_SUPPORTED,
+        NO_LEVEL,
     ),
     (
         "the last opcode of streams",
         "80 6f 0000 00 00 0000 00000000 00000001 0000000000000000",
-        0x0083,
+        NOT_SUPPORTED,
+        NO_LEVEL,
     ),
     (
         "the opcode before those of streams, datatype 2",
         "80 4f 0000 00 02 0000 00000000 00000001 0000000000000000",
-        0x0081,
+        UNKNOWN_COMMAND,
+        NO_LEVEL,
     ),
     (
         "the opcode behind those of streams",
         "80 70 0000 00 00 0000 00000000 00000001 0000000000000000",
-        0x0081,
+        UNKNOWN_COMMAND,
+        NO_LEVEL,
     ),
     (
         "datatype 2, a fourth level",
         "08 01 02 01 08 02 0000 0000000b 00000001 0000000000000000 1104 0000000000000000 61",
-        0x0004,
+        EINVAL,
+        NO_LEVEL,
     ),
     (
         "a Get of datatype 1",
         "80 00 0001 00 01 0000 00000001 00000001 0000000000000000 61",
-        0x0000,
+        READ,
+        NO_LEVEL,
     ),
     (
         "a Get without a key",
         "80 00 0000 00 00 0000 00000000 00000001 0000000000000000",
-        0x0004,
+        EINVAL,
+        NO_LEVEL,
     ),
     (
         "a Get with a value",
         "80 00 0001 00 00 0000 00000002 00000001 0000000000000000 61 31",
-        0x0004,
+        EINVAL,
+        NO_LEVEL,
     ),
     (
         "an Increment with a value",
         "80 05 0001 14 00 0000 00000016 00000001 0000000000000000 0000000000000001 0000000000000005 00000000 6e 31",
-        0x0004,
+        EINVAL,
+        NO_LEVEL,
     ),
     (
         "a Noop with a key",
         "80 0a 0001 00 00 0000 00000001 00000001 0000000000000000 61",
-        0x0004,
+        EINVAL,
+        NO_LEVEL,
     ),
     (
         "a Hello with an odd value",
         "80 1f 0001 00 00 0000 00000004 00000001 0000000000000000 61 000400",
-        0x0004,
+        EINVAL,
+        NO_LEVEL,
     ),
     (
         "an Add with a CAS",
         "80 02 0001 08 00 0000 00000009 00000001 0000000000000001 0000000000000000 61",
-        0x0004,
+        EINVAL,
+        NO_LEVEL,
     ),
     (
         "a manifest to set, without a text",
         "80 b9 0000 00 00 0000 00000000 00000001 0000000000000000",
-        0x0004,
+        EINVAL,
+        NO_LEVEL,
     ),
     (
         "a manifest to set, with a key",
         "80 b9 0001 00 00 0000 00000003 00000001 0000000000000000 61 7b7d",
-        0x0004,
+        EINVAL,
+        NO_LEVEL,
     ),
     (
         "a manifest to get, with a value",
         "80 ba 0000 00 00 0000 00000002 00000001 0000000000000000 7b7d",
-        0x0004,
+        EINVAL,
+        NO_LEVEL,
     ),
     (
         "a collection without a path",
         "80 bb 0000 00 00 0000 00000000 00000001 0000000000000000",
-        0x0004,
+        EINVAL,
+        NO_LEVEL,
     ),
     (
         "a collection with two paths",
         "80 bb 0003 00 00 0000 00000006 00000001 0000000000000000 732e63 732e63",
-        0x0004,
+        EINVAL,
+        NO_LEVEL,
     ),
     (
         "a scope without a path",
         "80 bc 0000 00 00 0000 00000000 00000001 0000000000000000",
-        0x0004,
+        EINVAL,
+        NO_LEVEL,
     ),
     (
         "a scope with two paths",
         "80 bc 0001 00 00 0000 00000002 00000001 0000000000000000 73 73",
-        0x0004,
+        EINVAL,
+        NO_LEVEL,
     ),
     (
         "a Replace with a CAS",
         "80 03 0001 08 00 0000 00000009 00000001 0000000000000001 0000000000000000 61",
-        0x0000,
+        READ,
+        NO_LEVEL,
+    ),
+    (
+        "an edit with a level",
+        "08 c8 02 01 03 00 0000 00000008 00000001 0000000000000000 1101 0001 00 61 62 31",
+        READ,
+        (1, 30_000),
+    ),
+    (
+        "a look-up with a level",
+        "08 c5 02 01 03 00 0000 00000007 00000001 0000000000000000 1101 0001 00 61 62",
+        EINVAL,
+        NO_LEVEL,
+    ),
+    (
+        "an edit without a key",
+        "80 c8 0000 03 00 0000 00000005 00000001 0000000000000000 0001 00 62 31",
+        EINVAL,
+        NO_LEVEL,
+    ),
+    (
+        "a look-up without a key",
+        "80 c5 0000 03 00 0000 00000004 00000001 0000000000000000 0001 00 62",
+        EINVAL,
+        NO_LEVEL,
     ),
 ];
 
+/// The place of the first frame with another status, level or timeout.
+fn first_mistaken(
+    alloc: Global,
+    rows: &[(&str, &str, u16, (u8, u16))],
+) -> Result<Option<usize>, Fail> {
+    for (place, row) in rows.iter().enumerate() {
+        let frame = frame_of(alloc, row.1)?;
+        if outcome(alloc, &frame, &NOTHING)? != (row.2, row.3) {
+            return Ok(Some(place));
+        }
+    }
+    Ok(None)
+}
+
 #[test]
 fn the_first_check_that_fails_gives_the_status(rt: HostRuntime) -> Result<(), Fail> {
-    let alloc = rt.alloc();
-    for (name, text, status) in FIRST_FAULTS {
-        let frame = frame_of(alloc, text)?;
-        assert_eq!(rt; outcome(alloc, &frame)?, (status, None), "{name}");
-    }
+    assert_eq!(rt; first_mistaken(rt.alloc(), &STATUSES)?, None);
     Ok(())
+}
+
+/// Opcodes with the lengths of extras, key and value and the CAS of a frame, and the status. The
+/// paths of those on parts of documents have no byte, which one of the two opcodes doesn't take.
+const SIZES: [(u8, usize, usize, usize, u64, u16); 9] = [
+    (0x02, 8, 250, 20_971_520, 0, READ),
+    (0x02, 8, 250, 20_971_521, 1, E2BIG),
+    (0x02, 8, 251, 20_971_521, 1, EINVAL),
+    (0xb9, 0, 0, 1_048_576, 0, READ),
+    (0xb9, 0, 0, 1_048_577, 0, E2BIG),
+    (0xcb, 3, 1, 20_971_520, 0, READ),
+    (0xcb, 3, 1, 20_971_521, 0, E2BIG),
+    (0xcd, 3, 1, 20_971_520, 0, EINVAL),
+    (0xcd, 3, 1, 20_971_521, 0, E2BIG),
+];
+
+/// The place of the first frame of these sizes with another status.
+fn first_missized(
+    alloc: Global,
+    rows: &[(u8, usize, usize, usize, u64, u16)],
+) -> Result<Option<usize>, Fail> {
+    for (place, row) in rows.iter().enumerate() {
+        let mut frame = frame_with(alloc, row.0, row.1, row.2, row.3)?;
+        frame.cas = row.4;
+        if outcome(alloc, &frame, &NOTHING)?.0 != row.5 {
+            return Ok(Some(place));
+        }
+    }
+    Ok(None)
 }
 
 #[test]
-fn the_longest_key_and_value_pass_and_no_longer_ones(rt: HostRuntime) -> Result<(), Fail> {
-    let alloc = rt.alloc();
-    let mut frame = frame_with(alloc, 0x02, 8, 250)?;
-    frame.value = Bytes::from_vec(vec![in alloc; 0u8; 20_971_520]?);
-    assert_eq!(rt; outcome(alloc, &frame)?, (0x0000, None));
-    frame.value = Bytes::from_vec(vec![in alloc; 0u8; 20_971_521]?);
-    frame.cas = 1;
-    assert_eq!(rt; outcome(alloc, &frame)?, (0x0003, None));
-    frame.key = Bytes::from_vec(vec![in alloc; b'k'; 251]?);
-    assert_eq!(rt; outcome(alloc, &frame)?, (0x0004, None));
+fn the_longest_keys_and_values_pass_and_no_longer_ones(rt: HostRuntime) -> Result<(), Fail> {
+    assert_eq!(rt; first_missized(rt.alloc(), &SIZES)?, None);
     Ok(())
 }
 
-#[test]
-fn the_longest_manifest_passes_and_no_longer_one(rt: HostRuntime) -> Result<(), Fail> {
-    let alloc = rt.alloc();
-    let mut frame = frame_with(alloc, 0xb9, 0, 0)?;
-    frame.value = Bytes::from_vec(vec![in alloc; b' '; 1_048_576]?);
-    assert_eq!(rt; outcome(alloc, &frame)?, (0x0000, None));
-    frame.value = Bytes::from_vec(vec![in alloc; b' '; 1_048_577]?);
-    assert_eq!(rt; outcome(alloc, &frame)?, (0x0003, None));
-    Ok(())
-}
+/// The first bytes of a key and how many letters follow them, whether collections are granted, and
+/// the collection and the length of the name that are read, or REFUSED.
+const KEYS: [(&str, usize, bool, (u32, usize)); 16] = [
+    ("08", 1, true, (8, 1)),
+    ("08", 1, false, (0, 2)),
+    ("00", 1, true, (0, 1)),
+    ("b964", 3, true, (12857, 3)),
+    ("ffffffff0f", 1, true, (0xffff_ffff, 1)),
+    ("8000", 1, true, REFUSED),
+    ("ffffffff1f", 1, true, REFUSED),
+    ("80", 0, true, REFUSED),
+    ("08", 0, true, REFUSED),
+    ("00", 0, true, REFUSED),
+    ("00", 250, true, (0, 250)),
+    ("00", 251, true, REFUSED),
+    ("08", 246, true, (8, 246)),
+    ("08", 247, true, REFUSED),
+    ("", 250, false, (0, 250)),
+    ("", 251, false, REFUSED),
+];
 
-/// The text or the path that a request on manifests brings.
-fn brought(body: &Body) -> &[u8] {
-    match body {
-        Body::SetManifest { text } => text.as_slice(),
-        Body::CollectionId { path } | Body::ScopeId { path } => path.as_slice(),
-        _ => b"",
-    }
-}
-
-#[test]
-fn a_manifest_is_the_value_and_a_path_is_key_or_value(rt: HostRuntime) -> Result<(), Fail> {
-    let alloc = rt.alloc();
-    let rows = [
-        (
-            "80 b9 0000 00 00 0000 00000002 00000001 0000000000000000 7b7d",
-            "set manifest",
-            "{}",
-        ),
-        (
-            "80 bb 0003 00 00 0000 00000003 00000001 0000000000000000 732e63",
-            "collection",
-            "s.c",
-        ),
-        (
-            "80 bb 0000 00 00 0000 00000003 00000001 0000000000000000 732e63",
-            "collection",
-            "s.c",
-        ),
-        (
-            "80 bc 0003 00 00 0000 00000003 00000001 0000000000000000 732e63",
-            "scope",
-            "s.c",
-        ),
-        (
-            "80 bc 0000 00 00 0000 00000003 00000001 0000000000000000 732e63",
-            "scope",
-            "s.c",
-        ),
-    ];
-    for (text, name, wanted) in rows {
-        let frame = frame_of(alloc, text)?;
-        let made = read_request(alloc, &frame, &COLLECTIONS_GRANTED)?;
-        assert_eq!(rt; kind(&made.body), name, "{text}");
-        assert_eq!(rt; brought(&made.body), wanted.as_bytes(), "{text}");
-    }
-    Ok(())
-}
-
-/// The collection of a Get's key and how many bytes its name has, or nothing where the key is refused.
-fn split(alloc: Global, key: Bytes, features: &Features) -> Result<Option<(u32, usize)>, Fail> {
-    let mut get = frame_with(alloc, 0x00, 0, 0)?;
-    get.key = key;
+/// The collection of a Get's key and how many bytes its name has, or REFUSED.
+fn split(alloc: Global, name: Vec<u8>, features: &Features) -> Result<(u32, usize), Fail> {
+    let mut get = frame_with(alloc, 0x00, 0, 0, 0)?;
+    get.key = Bytes::from_vec(name);
     match read_request(alloc, &get, features) {
-        Ok(made) => match made.body {
-            Body::Get { key } => Ok(Some((key.collection, key.key.len()))),
-            _ => Err("it is no Get")?,
-        },
-        Err(Refused::Status(Status { code: 0x0004 })) => Ok(None),
+        Ok(made) => {
+            let (collection, name) = key(&made.body);
+            Ok((collection, name.len()))
+        }
+        Err(Refused::Status(Status { code: EINVAL })) => Ok(REFUSED),
         Err(_) => Err("it is refused with another status")?,
     }
 }
 
-#[test]
-fn a_key_begins_with_its_collection_where_those_are_granted(rt: HostRuntime) -> Result<(), Fail> {
-    let alloc = rt.alloc();
-    let rows = [
-        ("0861", Some((8, 1))),
-        ("0061", Some((0, 1))),
-        ("b9646b6579", Some((12857, 3))),
-        ("ffffffff0f61", Some((0xffff_ffff, 1))),
-        ("800061", None),
-        ("ffffffff1f61", None),
-        ("80", None),
-        ("08", None),
-        ("00", None),
-    ];
-    for (spelling, wanted) in rows {
-        let key = Bytes::from_vec(bytes_of(alloc, spelling)?);
-        assert_eq!(rt;
-            split(alloc, key, &COLLECTIONS_GRANTED)?,
-            wanted,
-            "{spelling}"
-        );
-    }
-    let key = Bytes::from_vec(bytes_of(alloc, "0861")?);
-    assert_eq!(rt; split(alloc, key, &NOTHING_GRANTED)?, Some((0, 2)));
-    Ok(())
-}
-
-#[test]
-fn names_are_longer_in_the_first_collection_than_elsewhere(rt: HostRuntime) -> Result<(), Fail> {
-    let alloc = rt.alloc();
-    let rows = [
-        (0, 250, true),
-        (0, 251, false),
-        (8, 246, true),
-        (8, 247, false),
-    ];
-    for (collection, length, passes) in rows {
-        let mut key = vec![in alloc; b'k'; 1 + length]?;
-        key[0] = collection;
-        let key = split(alloc, Bytes::from_vec(key), &COLLECTIONS_GRANTED)?;
-        assert_eq!(rt; key.is_some(), passes, "{collection}, {length}");
-    }
-    Ok(())
-}
-
-#[test]
-fn a_hello_lists_the_features_that_it_asks_for(rt: HostRuntime) -> Result<(), Fail> {
-    let alloc = rt.alloc();
-    let hello = frame_of(
-        alloc,
-        "80 1f 0001 00 00 0000 00000005 00000001 0000000000000000 61 0004 0110",
-    )?;
-    let wanted = Body::Hello {
-        wanted: Seq::from_vec(vec![in alloc; 4u16, 272]?),
-    };
-    assert_eq!(rt; read_request(alloc, &hello, &NOTHING_GRANTED)?.body, wanted);
-    Ok(())
-}
-
-#[test]
-fn a_reply_to_a_get_has_its_flags_in_front(rt: HostRuntime) -> Result<(), Fail> {
-    let alloc = rt.alloc();
-    let reply = Reply {
-        opcode: 0x0c,
-        opaque: 0xdead_beef,
-        status: Status::SUCCESS,
-        cas: 5,
-        json: true,
-        flags: Some(42),
-        token: Some((4, 9)),
-        extras: Bytes::from_slice(alloc, b"e")?,
-        key: Some(DocKey {
-            collection: 8,
-            key: Bytes::from_slice(alloc, b"a")?,
-        }),
-        value: Bytes::from_slice(alloc, b"hi")?,
-    };
-    let plain = write_reply(alloc, &reply, &NOTHING_GRANTED)?.ok_or("it is sent")?;
-    assert_eq!(rt; plain.magic, Magic::Reply);
-    assert_eq!(rt;
-        (plain.opcode, plain.datatype, plain.word),
-        (0x0c, 0, 0x0000)
-    );
-    assert_eq!(rt; (plain.opaque, plain.cas), (0xdead_beef, 5));
-    assert_eq!(rt; plain.extras.as_slice(), [0, 0, 0, 0x2a, b'e'].as_slice());
-    assert_eq!(rt; plain.key.as_slice(), b"a".as_slice());
-    assert_eq!(rt; plain.value.as_slice(), b"hi".as_slice());
-
-    let full = write_reply(alloc, &reply, &ALL_GRANTED)?.ok_or("it is sent")?;
-    assert_eq!(rt; full.datatype, 1);
-    assert_eq!(rt; full.key.as_slice(), [0x08, b'a'].as_slice());
-    let wanted = bytes_of(alloc, "0000002a 0000000000000004 0000000000000009 65")?;
-    assert_eq!(rt; full.extras.as_slice(), wanted.as_slice());
-    Ok(())
-}
-
-#[test]
-fn quiet_opcodes_leave_one_status_unsent(rt: HostRuntime) -> Result<(), Fail> {
-    let alloc = rt.alloc();
-    let rows = [
-        ("the miss of a Get", 0x00, 0x0001, true),
-        ("the miss of a quiet Get", 0x09, 0x0001, false),
-        ("the success of a quiet Get", 0x09, 0x0000, true),
-        ("the miss of a quiet GetK", 0x0d, 0x0001, false),
-        ("the success of a Set", 0x01, 0x0000, true),
-        ("the success of a quiet Set", 0x11, 0x0000, false),
-        ("the refusal of a quiet Set", 0x11, 0x0002, true),
-        ("the success of a quiet Prepend", 0x1a, 0x0000, false),
-        ("the miss of a quiet Increment", 0x15, 0x0001, true),
-        ("the success of a quiet Quit", 0x17, 0x0000, false),
-        ("the refusal of an unknown opcode", 0x4f, 0x0081, true),
-    ];
-    for (name, opcode, code, is_sent) in rows {
-        let reply = refusal(alloc, opcode, 7, Status { code });
-        match write_reply(alloc, &reply, &ALL_GRANTED)? {
-            None => assert!(rt; !is_sent, "{name}"),
-            Some(made) => {
-                assert!(rt; is_sent, "{name}");
-                assert_eq!(rt; (made.magic, made.opcode), (Magic::Reply, opcode), "{name}");
-                assert_eq!(rt; (made.datatype, made.word), (0, code), "{name}");
-                assert_eq!(rt; (made.opaque, made.cas), (7, 0), "{name}");
-                assert!(rt; made.extras.is_empty() && made.key.is_empty(), "{name}");
-                assert!(rt; made.value.is_empty(), "{name}");
-            }
+/// The place of the first key that is read as another.
+fn first_missplit(
+    alloc: Global,
+    rows: &[(&str, usize, bool, (u32, usize))],
+) -> Result<Option<usize>, Fail> {
+    for (place, row) in rows.iter().enumerate() {
+        let features = if row.2 { COLLECTIONS } else { NOTHING };
+        let mut name = bytes_of(alloc, row.0)?;
+        let letters = vec![in alloc; b'k'; row.1]?;
+        name.extend_from_slice(&letters)?;
+        if split(alloc, name, &features)? != row.3 {
+            return Ok(Some(place));
         }
     }
+    Ok(None)
+}
+
+#[test]
+fn a_key_begins_with_its_collection_where_those_are_granted(rt: HostRuntime) -> Result<(), Fail> {
+    assert_eq!(rt; first_missplit(rt.alloc(), &KEYS)?, None);
     Ok(())
 }

@@ -1,10 +1,12 @@
 -- What the code's answers for a frame stand for.
-use Rattle.std.specs.Prelude.{◌≡◌, ℕ, List, []}
+use Rattle.std.specs.Prelude.{◌≡◌, ℕ, List, [], Option, Some, None}
 use Rattle.kv_frame.specs.declared.frame.Frame.{Frame}
 use Rattle.kv_frame.specs.declared.frame.Side.TheVariants.{Requests}
 use Rattle.kv_frame.specs.Judging.{BeginsWith, Lacks, IsBad}
 use Rattle.kv_request.specs.declared.request.Features.{Features}
+use Rattle.kv_request.specs.declared.request.Request.{Request}
 use Rattle.kv_request.specs.Tables.{IsReply}
+use Rattle.kv_session.specs.declared.answers.Own.{Own}
 use Rattle.kv_session.specs.declared.answers.Made.{Made}
 use Rattle.kv_session.specs.declared.answers.Made.TheVariants as mades
 use Rattle.kv_session.specs.declared.finding.Found.{Found}
@@ -14,6 +16,11 @@ use Rattle.kv_session.specs.declared.session.Next.TheVariants as nexts
 use Rattle.kv_session.specs.Answers as answers
 use Rattle.kv_session.specs.Answers.{made_by}
 use Rattle.kv_session.specs.Session.{Line}
+
+-- what is made of a request, with the session's own answer to it, where there is one
+abbrev pub made_with : Request → Option Own → answers.Made
+made_with made None = answers.Passed made
+made_with made (Some own) = answers.Told own.reply own.features own.quit
 
 -- it is what the session makes of the frame
 abbrev pub Makes : answers.Made → Made → Type 0

@@ -4,7 +4,7 @@ ghost use Rattle.std.specs.Prelude.{◌≡◌, IfOk};
 ghost use Rattle.std.specs.List.{flat_map, list_any};
 ghost use Rattle.std.specs.Int.{w16, to_be_bytes};
 ghost use Rattle.kv_session.specs.Answers.{is_granted, granted, features_of, telling, made_of, made_by};
-ghost use Rattle.kv_session.specs.Making.{Makes, Spells};
+ghost use Rattle.kv_session.specs.Making.{Makes, Spells, made_with};
 ghost use Rattle.kv_frame.specs.Grammar.{Fits};
 ghost use Rattle.kv_frame.specs.Viewing.{frame_seen};
 
@@ -51,6 +51,14 @@ pub(crate) enum Made {
     },
 }
 
+/// A session's own answer to a request: the reply, the features from then on, and whether the connection ends.
+#[derive(Drop)]
+struct Own {
+    reply: Reply,
+    features: Features,
+    quit: bool,
+}
+
 /// What a session makes of the frame that a view is of, under the features granted so far: a request to pass on, or a
 /// reply of the session's own.
 pub(crate) fn read_frame(
@@ -77,36 +85,51 @@ pub(crate) fn read_frame(
 fn pass_or_tell(alloc: Global, request: Request, features: Features) -> Result<Made, NoMemory>
     ensures { IfOk result (Makes (made_of features request request.body)) }
 {
+    let own = tell_own(alloc, &request, features)?;
+    match own {
+        Some(own) => Ok(Made::Told {
+            reply: own.reply,
+            features: own.features,
+            quit: own.quit,
+        }),
+        None => Ok(Made::Passed(request)),
+    }
+}
+
+/// What a session answers to a request by itself, or nothing where it asks something of a vbucket.
+fn tell_own(alloc: Global, request: &Request, features: Features) -> Result<Option<Own>, NoMemory>
+    ensures { IfOk result
+        (λ own. made_with request.now own ≡ made_of features request.now request.now.body) }
+{
     match &request.body {
         Body::Hello { wanted } => {
             let codes = grant(alloc, wanted.as_slice())?;
             let value = spell(alloc, &codes)?;
-            Ok(Made::Told {
-                reply: tell(alloc, &request, value),
+            Ok(Some(Own {
+                reply: tell(alloc, request, value),
                 features: take(&codes),
                 quit: false,
-            })
+            }))
         }
-        Body::Noop => Ok(Made::Told {
-            reply: tell(alloc, &request, Bytes::new(alloc)),
+        Body::Noop => Ok(Some(Own {
+            reply: tell(alloc, request, Bytes::new(alloc)),
             features,
             quit: false,
-        }),
-        Body::Version => Ok(Made::Told {
-            reply: tell(
-                alloc,
-                &request,
-                Bytes::from_slice(alloc, VERSION_TEXT.as_bytes())?,
-            ),
-            features,
-            quit: false,
-        }),
-        Body::Quit => Ok(Made::Told {
-            reply: tell(alloc, &request, Bytes::new(alloc)),
+        })),
+        Body::Version => {
+            let value = Bytes::from_slice(alloc, VERSION_TEXT.as_bytes())?;
+            Ok(Some(Own {
+                reply: tell(alloc, request, value),
+                features,
+                quit: false,
+            }))
+        }
+        Body::Quit => Ok(Some(Own {
+            reply: tell(alloc, request, Bytes::new(alloc)),
             features,
             quit: true,
-        }),
-        _ => Ok(Made::Passed(request)),
+        })),
+        _ => Ok(None),
     }
 }
 
