@@ -6,3 +6,5 @@ pub mod Looked
 pub mod Given
 pub mod Deep
 pub mod Edited
+pub mod Keys
+pub mod Names
