@@ -8,3 +8,6 @@ pub mod Deep
 pub mod Edited
 pub mod Keys
 pub mod Names
+pub mod Went
+pub mod Suits
+pub mod Trails
