@@ -11,3 +11,6 @@ pub mod Names
 pub mod Went
 pub mod Suits
 pub mod Trails
+pub mod Acting
+pub mod Left
+pub mod Within
