@@ -1,11 +1,12 @@
 -- A new key of characters in UTF-8 is a string.
-use Rattle.std.proofs.Common.{◌≡◌, ◌≢◌, ℕ, ◌+◌, ◌-◌, ◌*◌, ◌/◌, ◌%◌, ◌<◌, ◌≤◌, List, [], ◌∷◌, ◌++◌, Bool, true, false, cond, eqb, ◌⊎◌, inl, inr, refl, sym, ap, subst, ◌∙◌, arith}
+use Rattle.std.proofs.Common.{◌≡◌, ◌≢◌, ℕ, ◌+◌, ◌-◌, ◌*◌, ◌/◌, ◌%◌, ◌<◌, ◌≤◌, List, [], ◌∷◌, ◌++◌, Bool, true, false, cond, eqb, Option, Some, None, ◌⊎◌, inl, inr, refl, sym, ap, subst, ◌∙◌, arith}
 use Rattle.std.specs.Prelude.{nat_lt, nat_le, ◌&&◌, IsUtf8}
 use Rattle.std.specs.List.{flat_map, AllByRecursion}
 use Rattle.std.proofs.Math.Utf8.{encode, encodes, scalar, scalars, scalar_cases}
 use Rattle.std.proofs.lemmas.Bool.Decides.{nat_tests}
 use Rattle.std.proofs.lemmas.Grind.{flat_map-append}
 use Rattle.json_model.specs.Grammar.{Within, BeginsThree, BeginsFour, IsUtf8Character, IsPlain, IsHex, IsCharacter, IsString}
+use Rattle.json_model.specs.Decoding.{escaped, hex, Unit16, character, unit as code, unit_of, is_high, is_low, join, decode_unit, decode, StandsFor}
 use Rattle.json_model.specs.Edit.{hex_digit, key_byte, key_text}
 
 -- ---- characters
@@ -184,30 +185,119 @@ key_character (a ∷ b ∷ c ∷ d ∷ []) is =
     subst IsCharacter (sym (high_bytes (a ∷ b ∷ c ∷ d ∷ []) (t.0, (t.1, (omega (arith, is.1.low), (omega (arith, is.2.low), tt)))))) is
 key_character (a ∷ b ∷ c ∷ d ∷ e ∷ more) is = absurd is
 
--- bytes that are characters of a string
-record Characters (bytes : List ℕ) : Type 0 where
-  characters : List (List ℕ)
-  are : AllByRecursion IsCharacter characters
-  whole : bytes ≡ flat_map (λ c. c) characters
+-- ---- what a key stands for
+
+-- what the bytes of a key's character are
+abbrev Decodes : List ℕ → List ℕ → Type 0
+Decodes key c = (next : Option ℕ → Option (List ℕ)) → decode_unit None (unit_of key) next ≡ join c (next None)
+
+surrogate_by : (high low small : Bool) (x : ℕ) (f g : Option (List ℕ)) (l : List ℕ) (next : Option ℕ → Option (List ℕ)) → high ≡ false → low ≡ false → small ≡ true
+    → cond high f (cond low g (join (cond small (x ∷ []) l) (next None))) ≡ join (x ∷ []) (next None)
+surrogate_by false false true x f g l next a b c = refl
+surrogate_by true low small x f g l next a b c = cc
+surrogate_by false true small x f g l next a b c = cc
+surrogate_by false false false x f g l next a b c = cc
+
+no_high : (x : ℕ) → x < 0x80 → is_high x ≡ false
+no_high x h = grind (arith, nat_tests)
+
+no_low : (x : ℕ) → x < 0x80 → is_low x ≡ false
+no_low x h = grind (arith, nat_tests)
+
+small_unit : (x : ℕ) (next : Option ℕ → Option (List ℕ)) → x < 0x80 → decode_unit None (code x) next ≡ join (x ∷ []) (next None)
+small_unit x next h = surrogate_by (is_high x) (is_low x) (nat_lt x 0x80) x _ _ _ next (no_high x h) (no_low x h) (is_below x 0x80 h)
+
+hex_again : (n : ℕ) → n < 16 → hex (hex_digit n) ≡ n
+hex_again n h = grind (arith, nat_tests)
+
+numbered_unit : (k n x : ℕ) (next : Option ℕ → Option (List ℕ)) → k + n ≡ x → x < 0x80 → decode_unit None (code (k + n)) next ≡ join (x ∷ []) (next None)
+numbered_unit k n x next e h = ap (λ (y : ℕ). decode_unit None (code y) next) e ∙ small_unit x next h
+
+test_is : (x y : ℕ) → eqb x y ≡ true → y ≡ x
+test_is x y e = grind (arith, nat_tests)
+
+key_decodes : (x : ℕ) (a b c d : Bool) → eqb x 0x22 ≡ a → eqb x 0x5c ≡ b → nat_lt x 0x10 ≡ c → nat_lt x 0x20 ≡ d → x ≤ 0x7f
+    → Decodes (cond a (0x5c ∷ 0x22 ∷ []) (cond b (0x5c ∷ 0x5c ∷ []) (cond c (0x5c ∷ 0x75 ∷ 0x30 ∷ 0x30 ∷ 0x30 ∷ hex_digit x ∷ []) (cond d (0x5c ∷ 0x75 ∷ 0x30 ∷ 0x30 ∷ 0x31 ∷ hex_digit (x - 0x10) ∷ []) (x ∷ [])))) ++ []) (x ∷ [])
+key_decodes x true b c d e f g h small next = ap (λ (y : ℕ). join (y ∷ []) (next None)) (test_is x 0x22 e)
+key_decodes x false true c d e f g h small next = ap (λ (y : ℕ). join (y ∷ []) (next None)) (test_is x 0x5c f)
+key_decodes x false false true d e f g h small next =
+    let low : x < 16 = grind (arith, nat_tests) in
+    numbered_unit 0 (hex (hex_digit x)) x next (omega (arith, hex_again x low)) (omega (arith, low))
+key_decodes x false false false true e f g h small next =
+    let low : x - 0x10 < 16 = grind (arith, nat_tests) in
+    let high : 0x10 ≤ x = grind (arith, nat_tests) in
+    numbered_unit 0x10 (hex (hex_digit (x - 0x10))) x next (omega (arith, hex_again (x - 0x10) low, high)) (omega (arith, low))
+key_decodes x false false false false e f g h small next = refl
+
+-- a character of two bytes or more is itself
+high_decodes : (c : List ℕ) → AllByRecursion (λ x. 0x80 ≤ x) c → ((next : Option ℕ → Option (List ℕ)) → decode_unit None (unit_of c) next ≡ join c (next None)) → Decodes (flat_map key_byte c) c
+high_decodes c high same next = ap (λ (l : List ℕ). decode_unit None (unit_of l) next) (high_bytes c high) ∙ same next
+
+two_decodes : (a b : ℕ) → eqb a 0x5c ≡ false → (next : Option ℕ → Option (List ℕ)) → decode_unit None (unit_of (a ∷ b ∷ [])) next ≡ join (a ∷ b ∷ []) (next None)
+two_decodes a b e next = ap (λ (t : Bool). decode_unit None (cond t (character (escaped b ∷ [])) (character (a ∷ b ∷ []))) next) e
+
+no_slash : (a : ℕ) → 0x80 ≤ a → eqb a 0x5c ≡ false
+no_slash a h = grind (arith, nat_tests)
+
+character_decodes : (c : List ℕ) → IsUtf8Character c → Decodes (flat_map key_byte c) c
+character_decodes [] is = absurd is
+character_decodes (a ∷ []) is = key_decodes a (eqb a 0x22) (eqb a 0x5c) (nat_lt a 0x10) (nat_lt a 0x20) refl refl refl refl is
+character_decodes (a ∷ b ∷ []) is =
+    let high : 0x80 ≤ a = omega (arith, is.0.low) in
+    high_decodes (a ∷ b ∷ []) (high, (omega (arith, is.1.low), tt)) (two_decodes a b (no_slash a high))
+character_decodes (a ∷ b ∷ c ∷ []) is =
+    let t = three_high a b is.0 in
+    high_decodes (a ∷ b ∷ c ∷ []) (t.0, (t.1, (omega (arith, is.1.low), tt))) (λ next. refl)
+character_decodes (a ∷ b ∷ c ∷ d ∷ []) is =
+    let t = four_high a b is.0 in
+    high_decodes (a ∷ b ∷ c ∷ d ∷ []) (t.0, (t.1, (omega (arith, is.1.low), (omega (arith, is.2.low), tt)))) (λ next. refl)
+character_decodes (a ∷ b ∷ c ∷ d ∷ e ∷ more) is = absurd is
+
+-- ---- keys
 
 both_true : (a b : Bool) → a && b ≡ true → (a ≡ true) × (b ≡ true)
 both_true true true e = (refl, refl)
 both_true true false e = cc
 both_true false b e = cc
 
-key_characters : (cs : List ℕ) → scalars cs ≡ true → Characters (flat_map key_byte (encodes cs))
-key_characters [] e = record { characters = []; are = tt; whole = refl }
+-- bytes of a key that are characters of a string, and stand for others
+record Characters (bytes name : List ℕ) : Type 0 where
+  characters : List (List ℕ)
+  are : AllByRecursion IsCharacter characters
+  whole : bytes ≡ flat_map (λ c. c) characters
+  stand : decode None characters ≡ Some name
+
+none_stand : decode None [] ≡ Some []
+unfolding decode
+none_stand = refl
+
+more_stand : (key c : List ℕ) (characters : List (List ℕ)) (name : List ℕ) → Decodes key c → decode None characters ≡ Some name → decode None (key ∷ characters) ≡ Some (c ++ name)
+unfolding decode
+more_stand key c characters name is e = is (λ next. decode next characters) ∙ ap (join c) e
+
+key_characters : (cs : List ℕ) → scalars cs ≡ true → Characters (flat_map key_byte (encodes cs)) (encodes cs)
+key_characters [] e = record { characters = []; are = tt; whole = refl; stand = none_stand }
 key_characters (c ∷ cs) e =
     let both = both_true (scalar c) (scalars cs) e in
+    let is = character_is c both.0 in
     let rest = key_characters cs both.1 in
     record {
       characters = flat_map key_byte (encode c) ∷ rest.characters;
-      are = (key_character (encode c) (character_is c both.0), rest.are);
+      are = (key_character (encode c) is, rest.are);
       whole = flat_map-append key_byte (encode c) (encodes cs) ∙ ap (λ (l : List ℕ). flat_map key_byte (encode c) ++ l) rest.whole;
+      stand = more_stand (flat_map key_byte (encode c)) (encode c) rest.characters (encodes cs) (character_decodes (encode c) is) rest.stand;
     }
+
+-- the key of a name in UTF-8 is a string, and stands for that name
+pub key_stands : (name : List ℕ) → IsUtf8 name → StandsFor (key_text name) name
+key_stands name (cs, (are, e)) =
+    let k = key_characters cs are in
+    (
+      k.characters, k.are,
+      ap (λ (l : List ℕ). 0x22 ∷ (flat_map key_byte l ++ 0x22 ∷ [])) (sym e) ∙ ap (λ (l : List ℕ). 0x22 ∷ (l ++ 0x22 ∷ [])) k.whole,
+      k.stand ∙ ap (λ (l : List ℕ). Some l) e,
+    )
 
 -- the key of a name in UTF-8 is a string
 pub key_string : (name : List ℕ) → IsUtf8 name → IsString (key_text name)
-key_string name (cs, (are, e)) =
-    let k = key_characters cs are in
-    (k.characters, k.are, ap (λ (l : List ℕ). 0x22 ∷ (flat_map key_byte l ++ 0x22 ∷ [])) (sym e) ∙ ap (λ (l : List ℕ). 0x22 ∷ (l ++ 0x22 ∷ [])) k.whole)
+key_string name utf8 = let s = key_stands name utf8 in (s.0, s.1, s.2)
