@@ -1,12 +1,11 @@
 -- What is done where a path leads leaves JSON.
 use Rattle.std.proofs.Common.{◌≡◌, ℕ, List, [], ◌∷◌, length, Bool, true, false, cond, Option, Some, None, Result, Ok, Err, refl, sym, ap, subst, ◌∙◌}
-use Rattle.std.specs.Prelude.{ℤ, pos, ◌+ℤ◌, IsTrue, IsUtf8, nat_eq, ◌||◌, ◌==◌, option_map}
+use Rattle.std.specs.Prelude.{ℤ, ◌+ℤ◌, IsUtf8, nat_eq, ◌||◌, ◌==◌, option_map}
 use Rattle.std.specs.Cmp.Lexicographic.{pointwise}
 use Rattle.std.specs.List.{list_all, list_any, AllByRecursion}
 use Rattle.std.specs.Fmt.{signed_decimal}
 use Rattle.doc_model.specs.declared.status.Status.{Status}
 use Rattle.doc_model.specs.declared.status.TheConstants.Status as status
-use Rattle.json_model.specs.declared.kinds.Kind.{Kind}
 use Rattle.json_model.specs.declared.kinds.Kind.TheVariants as kinds
 use Rattle.json_model.specs.declared.kinds.Shape.{Shape}
 use Rattle.json_model.specs.declared.kinds.Shape.TheVariants as shapes
@@ -14,14 +13,14 @@ use Rattle.json_model.specs.declared.asked.Part.{Part}
 use Rattle.json_model.specs.declared.asked.Part.TheVariants.{Member, At, Last}
 use Rattle.json_model.specs.Spelled.{Tree, leaf, empty, group, Parts, text, Fits, PartsFit}
 use Rattle.json_model.specs.Follow.{asks, Outcome, reached, missing, mismatch, Follows}
-use Rattle.json_model.specs.Moves.{Change, put, push, insert, remove, Takes, ChangeFits}
+use Rattle.json_model.specs.Moves.{put, push, insert, Takes, ChangeFits}
 use Rattle.json_model.specs.Splices.{Reaches}
-use Rattle.json_model.specs.Edit.{Asked, Act, dict_add, dict_upsert, delete, replace, push_last, push_first, array_insert, add_unique, counter, act, above, final, array_elements, is_leaf, to_array, to_set, counted, number_of, at_value, names_of, made, make, with_number, at_length, at_gap, act_at, member, nested, element, fits_i64}
+use Rattle.json_model.specs.Edit.{Asked, Act, dict_add, dict_upsert, delete, replace, push_last, push_first, array_insert, add_unique, counter, act, above, array_elements, is_leaf, to_array, to_set, counted, number_of, at_value, names_of, made, make, with_number, at_length, at_gap, act_at, member, nested, element, fits_i64}
 use Rattle.json_model.proofs.Following.{reached_trail, missing_trail}
 use Rattle.subdoc_step.proofs.Keys.{key_string}
 use Rattle.subdoc_step.proofs.Names.{NamesUtf8}
 use Rattle.subdoc_step.proofs.Suits.{Suits, signed_number}
-use Rattle.subdoc_step.proofs.Trails.{reaches_found, reaches_one, index_above, HasShape, Gap, missing_gap}
+use Rattle.subdoc_step.proofs.Trails.{reaches_found, reaches_one, index_above, HasShape, missing_gap}
 
 -- what a change brings may stand where its trail leads
 abbrev pub ActFits : Tree → Result Act Status → Type 0

@@ -1,12 +1,12 @@
 -- A new key of characters in UTF-8 is a string.
-use Rattle.std.proofs.Common.{◌≡◌, ◌≢◌, ℕ, ◌+◌, ◌-◌, ◌*◌, ◌/◌, ◌%◌, ◌<◌, ◌≤◌, List, [], ◌∷◌, ◌++◌, Bool, true, false, cond, eqb, Option, Some, None, ◌⊎◌, inl, inr, refl, sym, ap, subst, ◌∙◌, arith}
-use Rattle.std.specs.Prelude.{nat_lt, nat_le, ◌&&◌, IsUtf8}
+use Rattle.std.proofs.Common.{◌≡◌, ◌≢◌, ℕ, ◌+◌, ◌-◌, ◌/◌, ◌%◌, ◌<◌, ◌≤◌, List, [], ◌∷◌, ◌++◌, Bool, true, false, cond, eqb, Option, Some, None, ◌⊎◌, inl, inr, refl, sym, ap, subst, ◌∙◌, arith}
+use Rattle.std.specs.Prelude.{nat_lt, ◌&&◌, IsUtf8}
 use Rattle.std.specs.List.{flat_map, AllByRecursion}
 use Rattle.std.proofs.Math.Utf8.{encode, encodes, scalar, scalars, scalar_cases}
 use Rattle.std.proofs.lemmas.Bool.Decides.{nat_tests}
 use Rattle.std.proofs.lemmas.Grind.{flat_map-append}
 use Rattle.json_model.specs.Grammar.{Within, BeginsThree, BeginsFour, IsUtf8Character, IsPlain, IsHex, IsCharacter, IsString}
-use Rattle.json_model.specs.Decoding.{escaped, hex, Unit16, character, unit as code, unit_of, is_high, is_low, join, decode_unit, decode, StandsFor}
+use Rattle.json_model.specs.Decoding.{escaped, hex, character, unit as code, unit_of, is_high, is_low, join, decode_unit, decode, StandsFor}
 use Rattle.json_model.specs.Edit.{hex_digit, key_byte, key_text}
 
 -- ---- characters
@@ -291,9 +291,9 @@ key_characters (c ∷ cs) e =
 -- the key of a name in UTF-8 is a string, and stands for that name
 pub key_stands : (name : List ℕ) → IsUtf8 name → StandsFor (key_text name) name
 key_stands name (cs, (are, e)) =
-    let k = key_characters cs are in
-    (
-      k.characters, k.are,
+    let k = key_characters cs are in (
+      k.characters,
+      k.are,
       ap (λ (l : List ℕ). 0x22 ∷ (flat_map key_byte l ++ 0x22 ∷ [])) (sym e) ∙ ap (λ (l : List ℕ). 0x22 ∷ (l ++ 0x22 ∷ [])) k.whole,
       k.stand ∙ ap (λ (l : List ℕ). Some l) e,
     )

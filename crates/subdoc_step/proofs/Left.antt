@@ -1,14 +1,10 @@
 -- What an edit leaves is a JSON text.
-use Rattle.std.proofs.Common.{◌≡◌, ℕ, List, Bool, Result, Ok, refl, sym, ap, subst, ◌∙◌}
-use Rattle.doc_model.specs.declared.status.Status.{Status}
+use Rattle.std.proofs.Common.{ℕ, List, Bool, Ok, sym, ap, subst}
 use Rattle.json_model.specs.declared.TheConstants.{MOST_DEEP}
-use Rattle.json_model.specs.declared.asked.Part.{Part}
 use Rattle.json_model.specs.declared.asked.Edit.{Edit}
 use Rattle.json_model.specs.Spelled.{Tree, Document, Fits, IsText}
-use Rattle.json_model.specs.Edit.{Act}
-use Rattle.json_model.specs.Order.{Edited, done_to, EditedText, within_document, Edits}
+use Rattle.json_model.specs.Order.{Edited, EditedText, Edits}
 use Rattle.json_model.proofs.Kept.{edit_fits}
-use Rattle.subdoc_step.specs.Answers.{edited}
 use Rattle.subdoc_step.proofs.Texts.{read_is}
 use Rattle.subdoc_step.proofs.Paths.{path_is}
 use Rattle.subdoc_step.proofs.Followed.{follows}
@@ -16,7 +12,7 @@ use Rattle.subdoc_step.proofs.Edited.{edited_only}
 use Rattle.subdoc_step.proofs.Names.{path_names}
 use Rattle.subdoc_step.proofs.Suits.{asked_suits}
 use Rattle.subdoc_step.proofs.Acting.{ActFits, act_fits}
-use Rattle.subdoc_step.proofs.Went.{fine, WentTree, Went, went}
+use Rattle.subdoc_step.proofs.Went.{fine, Went, went}
 
 -- ---- the text that an edit leaves
 

@@ -14,3 +14,5 @@ pub mod Trails
 pub mod Acting
 pub mod Left
 pub mod Within
+pub mod Ways
+pub mod Put

@@ -1,5 +1,5 @@
 -- The names in a path are UTF-8.
-use Rattle.std.proofs.Common.{◌≡◌, ℕ, zero, suc, ◌+◌, ◌<◌, List, [], ◌∷◌, ◌++◌, length, get_or, take, drop, Bool, true, false, cond, eqb, ◌⊎◌, inl, inr, refl, sym, ap, subst, ◌∙◌, arith, append_assoc, length-append}
+use Rattle.std.proofs.Common.{◌≡◌, ℕ, zero, suc, ◌+◌, ◌<◌, List, [], ◌∷◌, ◌++◌, length, get_or, drop, Bool, true, false, cond, eqb, ◌⊎◌, inl, inr, refl, sym, ap, subst, ◌∙◌, arith, append_assoc, length-append}
 use Rattle.std.specs.Prelude.{IsUtf8}
 use Rattle.std.specs.List.{flat_map}
 use Rattle.std.proofs.lemmas.Bool.Decides.{nat_tests}
@@ -32,7 +32,7 @@ cut_at front x rest small utf8 =
     record {
       before = subst (λ (l : List ℕ). IsUtf8 l) (take_at front (x ∷ rest) (length front) refl) (IsUtf8-take bytes (length front) utf8 (IsCharBoundary-before_ascii bytes (length front) within ascii));
       behind = subst (λ (l : List ℕ). IsUtf8 l) (ap (drop (length front + 1)) split ∙ drop_at (front ++ x ∷ []) rest (length front + 1) (sym one_more))
-      (IsUtf8-drop bytes (length front + 1) utf8 (IsCharBoundary-after_ascii bytes (length front) utf8 within ascii));
+          (IsUtf8-drop bytes (length front + 1) utf8 (IsCharBoundary-after_ascii bytes (length front) utf8 within ascii));
     }
 
 ascii_one : (x : ℕ) → x < 128 → IsUtf8 (x ∷ [])

@@ -1,7 +1,6 @@
 -- What comes with an edit is JSON that may stand where it is put.
-use Rattle.std.proofs.Common.{◌≡◌, ℕ, zero, suc, ◌+◌, ◌<◌, ◌≤◌, ◌^◌, List, [], ◌∷◌, ◌++◌, length, get_or, Bool, true, false, cond, Some, Result, Ok, Err, inl, inr, refl, sym, ap, subst, ◌∙◌, arith}
+use Rattle.std.proofs.Common.{◌≡◌, ℕ, zero, suc, ◌<◌, ◌^◌, List, [], ◌∷◌, ◌++◌, get_or, Bool, true, false, cond, Result, Ok, Err, inl, inr, refl, sym, ap, subst, arith}
 use Rattle.std.specs.Prelude.{ℤ, pos, negsuc, IsTrue}
-use Rattle.std.specs.List.{AllByRecursion}
 use Rattle.std.specs.Char.{digit_value}
 use Rattle.std.specs.Fmt.{decimal, signed_decimal}
 use Rattle.std.specs.Str.Parse.{AllDigits, signed_digits_value}
@@ -10,7 +9,6 @@ use Rattle.std.proofs.lemmas.Fmt.{decimal_is_IsNumeral, decimal_digit, first_dec
 use Rattle.doc_model.specs.declared.status.Status.{Status}
 use Rattle.doc_model.specs.declared.status.TheConstants.Status as status
 use Rattle.json_model.specs.declared.TheConstants.{MOST_DEEP}
-use Rattle.json_model.specs.declared.kinds.Kind.{Kind}
 use Rattle.json_model.specs.declared.kinds.Kind.TheVariants as kinds
 use Rattle.json_model.specs.declared.kinds.Shape.{Shape}
 use Rattle.json_model.specs.declared.kinds.Shape.TheVariants as shapes
@@ -19,14 +17,14 @@ use Rattle.json_model.specs.declared.asked.Edit.{Edit}
 use Rattle.json_model.specs.declared.asked.Edit.TheVariants as edits
 use Rattle.json_model.specs.Grammar.{Within, AreBlanks, AreDigits, IsWhole, IsNumber, IsLeaf}
 use Rattle.json_model.specs.Spelled.{Head, plain, keyed, Tree, leaf, empty, group, Parts, last, more, HeadFits, Fits, PartsFit, Document}
-use Rattle.json_model.specs.Moves.{gap_before, led_head, led, ended, trimmed}
+use Rattle.json_model.specs.Moves.{led_head, led, ended, trimmed}
 use Rattle.json_model.specs.Edit.{Asked, dict_add, dict_upsert, delete, replace, push_last, push_first, array_insert, add_unique, counter, fits_i64}
 use Rattle.json_model.specs.Order.{ends_in_index, takes}
 use Rattle.json_model.specs.Values.{bracketed}
 use Rattle.json_spell.specs.declared.tokens.Stop.{Stop}
 use Rattle.json_spell.specs.Reading.{document_at}
-use Rattle.json_spell.proofs.Again.{shape_kind, tree_kind}
-use Rattle.subdoc_step.specs.Given.{nested_arrays, too_deep, tree_given, parts_in, parts_given, leaf_in, leaf_given, is_delta, delta_given, given}
+use Rattle.json_spell.proofs.Again.{tree_kind}
+use Rattle.subdoc_step.specs.Given.{nested_arrays, too_deep, tree_given, parts_in, parts_given, leaf_in, leaf_given, is_delta, given}
 use Rattle.subdoc_step.proofs.Texts.{Read, as_text, as_not, as_deep, reads}
 use Rattle.subdoc_step.proofs.Given.{array_kind, pos_fits, neg_fits, delta_is}
 
@@ -57,17 +55,25 @@ append_none (x ∷ l) = ap (λ (m : List ℕ). x ∷ m) (append_none l)
 -- the decimal of a number within 64 bits is a number of JSON
 pub signed_number : (n : ℤ) → IsTrue (fits_i64 n) → IsNumber (signed_decimal n)
 signed_number (pos n) fits = record {
-  minus = []; whole = decimal n; fraction = []; exponent = [];
+  minus = [];
+  whole = decimal n;
+  fraction = [];
+  exponent = [];
   minus_is = inl refl;
   whole_is = unsigned_number n (pos_fits n fits);
-  fraction_is = tt; exponent_is = tt;
+  fraction_is = tt;
+  exponent_is = tt;
   parts = sym (append_none (decimal n));
 }
 signed_number (negsuc n) fits = record {
-  minus = 0x2d ∷ []; whole = decimal (suc n); fraction = []; exponent = [];
+  minus = 0x2d ∷ [];
+  whole = decimal (suc n);
+  fraction = [];
+  exponent = [];
   minus_is = inr refl;
   whole_is = unsigned_number (suc n) (neg_fits n fits);
-  fraction_is = tt; exponent_is = tt;
+  fraction_is = tt;
+  exponent_is = tt;
   parts = ap (λ (l : List ℕ). 0x2d ∷ l) (sym (append_none (decimal (suc n))));
 }
 

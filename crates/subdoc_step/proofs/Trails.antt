@@ -1,11 +1,11 @@
 -- Values at the ends of trails, and where following parts leads.
-use Rattle.std.proofs.Common.{◌≡◌, ℕ, suc, List, [], ◌∷◌, Bool, true, false, Option, Some, None, inl, inr, refl, sym, ap, subst, ◌∙◌}
+use Rattle.std.proofs.Common.{◌≡◌, ℕ, List, [], ◌∷◌, true, Option, Some, None, inl, inr, refl, sym, ap, subst, ◌∙◌}
 use Rattle.json_model.specs.declared.kinds.Shape.{Shape}
 use Rattle.json_model.specs.declared.kinds.Shape.TheVariants as shapes
 use Rattle.json_model.specs.declared.asked.Part.{Part}
 use Rattle.json_model.specs.declared.asked.Part.TheVariants.{Member, At, Last}
 use Rattle.json_model.specs.Spelled.{Tree, leaf, empty, group, Parts, PartsFit}
-use Rattle.json_model.specs.Follow.{Names, asks, child, Outcome, reached, missing, mismatch, over, Follows}
+use Rattle.json_model.specs.Follow.{asks, child, Outcome, reached, missing, mismatch, over, Follows}
 use Rattle.json_model.specs.Moves.{Takes}
 use Rattle.json_model.specs.Splices.{Reaches, here, there}
 use Rattle.json_model.specs.Edit.{above}
@@ -121,9 +121,9 @@ more_above q ps shape parts k inner t u next trail c f e law found =
     let s = some_trail q ps inner d.rest u g in
     let path : trail ≡ k ∷ s.first ∷ s.others = d.trail_is ∙ ap (λ (l : List ℕ). k ∷ l) s.is in
     law d.rest g (
-      ap (λ (l : List ℕ). found_at (above l) inner) s.is
-      ∙ ap (λ (o : Option Tree). within o (found_at (above (s.first ∷ s.others)))) (sym c)
-      ∙ ap (λ (l : List ℕ). found_at (above l) (group shape parts)) (sym path) ∙ found
+    ap (λ (l : List ℕ). found_at (above l) inner) s.is
+    ∙ ap (λ (o : Option Tree). within o (found_at (above (s.first ∷ s.others)))) (sym c)
+    ∙ ap (λ (l : List ℕ). found_at (above l) (group shape parts)) (sym path) ∙ found
     )
 
 pub index_above : (path : List Part) (tree : Tree) (trail : List ℕ) (u t : Tree) → Follows path tree (reached trail u) → ends_in_index path ≡ true → found_at (above trail) tree ≡ this t → TakesElements t
@@ -159,7 +159,7 @@ gap_here p ps t u trail absent has e =
     let rest : absent ≡ p ∷ ps = cc in
     record { part = p; others = ps; absent_is = rest; shape_is = subst (λ (v : Tree). HasShape v (asks p)) same has; names = λ n. subst NamesUtf8 (sym rest) n }
 
-names_behind : (p : Part) (ps : List Part) → NamesUtf8 (p ∷ ps) → NamesUtf8 ps
+pub names_behind : (p : Part) (ps : List Part) → NamesUtf8 (p ∷ ps) → NamesUtf8 ps
 names_behind (Member name) ps n = n.1
 names_behind (At k) ps n = n
 names_behind Last ps n = n

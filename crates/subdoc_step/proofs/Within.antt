@@ -1,18 +1,17 @@
 -- What is found and what is left isn't too long.
-use Rattle.std.proofs.Common.{◌≡◌, ℕ, zero, suc, ◌+◌, ◌/◌, ◌%◌, ◌<◌, ◌≤◌, ◌^◌, List, [], ◌∷◌, ◌++◌, length, Bool, true, false, cond, Some, Result, Ok, Err, refl, sym, ap, subst, ◌∙◌, arith, length-append}
+use Rattle.std.proofs.Common.{◌≡◌, ℕ, zero, suc, ◌+◌, ◌/◌, ◌%◌, ◌<◌, ◌≤◌, ◌^◌, List, [], ◌∷◌, ◌++◌, length, Bool, true, false, cond, Some, Result, Ok, refl, ap, subst, arith, length-append}
 use Rattle.std.specs.Prelude.{nat_lt, ◌==◌}
 use Rattle.std.specs.Fmt.{digit_glyph, digits_onto, digits, decimal}
 use Rattle.std.proofs.lemmas.Bool.Decides.{nat_tests}
 use Rattle.std.proofs.lemmas.Fmt.{length-decimal-le}
 use Rattle.doc_model.specs.declared.status.Status.{Status}
 use Rattle.json_model.specs.declared.TheConstants.{TEXT_LIMIT}
-use Rattle.json_model.specs.declared.kinds.Kind.{Kind}
 use Rattle.json_model.specs.declared.kinds.Shape.{Shape}
 use Rattle.json_model.specs.declared.asked.Part.{Part}
 use Rattle.json_model.specs.declared.asked.Lookup.{Lookup}
 use Rattle.json_model.specs.declared.asked.Lookup.TheVariants as lookups
 use Rattle.json_model.specs.declared.asked.Edit.{Edit}
-use Rattle.json_model.specs.Spelled.{Head, Tree, leaf, empty, group, Parts, last, more, opening, closing, head_text, text, parts_text, count, Fits, PartsFit, Document, document_text}
+use Rattle.json_model.specs.Spelled.{Tree, leaf, empty, group, Parts, last, more, closing, head_text, text, parts_text, count, Fits, PartsFit}
 use Rattle.json_model.specs.Follow.{child, Outcome, reached, missing, mismatch, Follows}
 use Rattle.json_model.specs.Splices.{Reaches, here, there}
 use Rattle.json_model.specs.Edit.{looked, look_at}
@@ -24,7 +23,7 @@ use Rattle.subdoc_step.specs.Paths.{read_parts, followed}
 use Rattle.subdoc_step.specs.Answers.{◌>>=◌, looked_up, edited}
 use Rattle.subdoc_step.proofs.Texts.{read_is}
 use Rattle.subdoc_step.proofs.Followed.{child_fits, follows}
-use Rattle.subdoc_step.proofs.Went.{fine, gave, Went, went}
+use Rattle.subdoc_step.proofs.Went.{gave, went}
 
 -- ---- a value is within its text
 
@@ -120,8 +119,11 @@ found_within lookup all path bytes e =
     let is = read_is all b.value b.is in
     let d = b.value in
     omega (
-      arith, look_length lookup a.value d.tree bytes (followed a.value d.tree) is.tree (follows a.value d.tree is.tree) b.then_is,
-      ap (λ (l : List ℕ). length l) is.spelled, length-append d.before (text d.tree ++ d.after), length-append (text d.tree) d.after
+      arith,
+      look_length lookup a.value d.tree bytes (followed a.value d.tree) is.tree (follows a.value d.tree is.tree) b.then_is,
+      ap (λ (l : List ℕ). length l) is.spelled,
+      length-append d.before (text d.tree ++ d.after),
+      length-append (text d.tree) d.after,
     )
 
 -- ---- what is left
