@@ -72,7 +72,7 @@ nested_depth : (names : List (List ℕ)) (v : Tree) → depth v ≤ depth (neste
 nested_depth [] v = omega arith
 nested_depth (name ∷ names) v = omega (arith, nested_depth names v)
 
-push_depth : (t v : Tree) (name : List ℕ) (names : List (List ℕ)) → is_leaf t ≡ false → depth v ≤ depth (changed (push (member name (nested names v))) t)
+pub push_depth : (t v : Tree) (name : List ℕ) (names : List (List ℕ)) → is_leaf t ≡ false → depth v ≤ depth (changed (push (member name (nested names v))) t)
 push_depth (leaf kind s) v name names h = cc
 push_depth (empty shape gap) v name names h = omega (arith, ended_depth gap (member name (nested names v)), nested_depth names v)
 push_depth (group shape ps) v name names h = omega (arith, pushed_depth (member name (nested names v)) ps, nested_depth names v)

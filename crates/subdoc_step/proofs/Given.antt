@@ -50,7 +50,7 @@ tree_told asked bytes r (as_deep left place deep) = inr (inl (place, too_deep, d
 -- ---- texts with commas between
 
 -- a text in brackets is an array's
-array_kind : (bytes : List ℕ) (d : Document) → IsText MOST_DEEP d (bracketed bytes) → tree_kind d.tree ≡ kinds.Array
+pub array_kind : (bytes : List ℕ) (d : Document) → IsText MOST_DEEP d (bracketed bytes) → tree_kind d.tree ≡ kinds.Array
 array_kind bytes d is = by_front d.before is.before is.spelled
   where
     no_blank : (x : ℕ) → IsBlank x → 0x5b ≡ x → ⊥
@@ -136,7 +136,7 @@ delta_Decides n bytes =
     Decides-and (bytes_eq (signed_decimal n) bytes && not (int_eq n (pos 0))) (fits_i64 n)
     (Decides-and (bytes_eq (signed_decimal n) bytes) (not (int_eq n (pos 0))) (bytes_eq-Decides (signed_decimal n) bytes) (Decides-not (int_eq n (pos 0)) (Decides-int_eq n (pos 0)))) (true_Decides (fits_i64 n))
 
-delta_is : (n : ℤ) (bytes : List ℕ) → is_delta n bytes ≡ true → IsDelta n bytes
+pub delta_is : (n : ℤ) (bytes : List ℕ) → is_delta n bytes ≡ true → IsDelta n bytes
 delta_is n bytes e = let f = (delta_Decides n bytes).0 e in record { spelled = sym f.0.0; not_zero = f.0.1; fits = f.1 }
 
 is_tested : (n : ℤ) (bytes : List ℕ) → IsDelta n bytes → is_delta n bytes ≡ true
@@ -154,10 +154,10 @@ no_sign s h = no_sign_by (eqb (get_or s 0 0) 45) (eqb (get_or s 0 0) 43) s (diff
     differs : (x y : ℕ) → y < x → eqb x y ≡ false
     differs x y h = grind (arith, nat_tests)
 
-pos_fits : (n : ℕ) → IsTrue (fits_i64 (pos n)) → n < 2 ^ 64
+pub pos_fits : (n : ℕ) → IsTrue (fits_i64 (pos n)) → n < 2 ^ 64
 pos_fits n h = grind (arith, nat_tests)
 
-neg_fits : (n : ℕ) → IsTrue (fits_i64 (negsuc n)) → suc n < 2 ^ 64
+pub neg_fits : (n : ℕ) → IsTrue (fits_i64 (negsuc n)) → suc n < 2 ^ 64
 neg_fits n h = grind (arith, nat_tests)
 
 not_zero : (n : ℕ) → pos n ≢ pos 0 → 0 < n

@@ -8,3 +8,13 @@ pub mod Pieces
 pub mod Given
 pub mod Deep
 pub mod Edited
+pub mod Keys
+pub mod Names
+pub mod Went
+pub mod Suits
+pub mod Trails
+pub mod Acting
+pub mod Left
+pub mod Within
+pub mod Ways
+pub mod Put

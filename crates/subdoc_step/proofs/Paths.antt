@@ -186,3 +186,21 @@ path_only bytes answer (inr (inr (inl (room, parts, is, many, e)))) =
     e ∙ sym (path_reads bytes parts room is ∙ ap (λ (t : Bool). cond t (refused status.PATH_E2BIG) (parts_are parts)) (is_below PARTS_LIMIT (length parts) many))
 path_only bytes answer (inr (inr (inr (room, parts, is, some, e)))) =
     e ∙ sym (path_reads bytes parts room is ∙ ap (λ (t : Bool). cond t (refused status.PATH_E2BIG) (parts_are parts)) (isnt_below PARTS_LIMIT (length parts) some))
+
+-- parts that are read are those of a path, and not too many
+pub path_is : (bytes : List ℕ) (parts : List Part) → read_parts bytes ≡ parts_are parts → IsPath parts bytes × (length parts ≤ PARTS_LIMIT)
+path_is bytes parts e = by_case (read_parts bytes) (path_answered bytes) e
+  where
+    err_no : (s : Status) → refused s ≡ parts_are parts → ⊥
+    err_no s e = cc
+
+    same_parts : (ps : List Part) → parts_are ps ≡ parts_are parts → ps ≡ parts
+    same_parts ps e = cc
+
+    by_case : (r : Result (List Part) Status) → ReadsPath bytes r → r ≡ parts_are parts → IsPath parts bytes × (length parts ≤ PARTS_LIMIT)
+    by_case r (inl (long, h)) e = absurd (err_no status.PATH_E2BIG (sym h ∙ e))
+    by_case r (inr (inl (room, none, h))) e = absurd (err_no status.PATH_EINVAL (sym h ∙ e))
+    by_case r (inr (inr (inl (room, ps, is, many, h)))) e = absurd (err_no status.PATH_E2BIG (sym h ∙ e))
+    by_case r (inr (inr (inr (room, ps, is, some, h)))) e =
+        let same : ps ≡ parts = same_parts ps (sym h ∙ e) in
+        (subst (λ (l : List Part). IsPath l bytes) same is, subst (λ (l : List Part). length l ≤ PARTS_LIMIT) same some)

@@ -8,5 +8,7 @@
 #![tactic(auto)]
 
 mod laws;
+mod user_laws;
 
 pub use laws::{edits_have_one_answer, look_ups_have_one_answer};
+pub use user_laws::{edits_leave_json, looks_are_within, upserted_is_found};
