@@ -1,4 +1,4 @@
-ghost use Rattle.std.specs.Prelude.{IfOk};
+ghost use Rattle.std.specs.Prelude.{◌≡◌, IfOk};
 ghost use Rattle.kv_request.specs.Tables.{IsReply};
 
 use crate::{Next, Session};
@@ -6,7 +6,7 @@ use doc_model::{DocKey, Status};
 use hex_rows::bytes_of;
 use kv_edge::{Bytes, NoMemory};
 use kv_frame::Fault;
-use kv_request::{Body, Reply, Request, refusal, small_replies};
+use kv_request::{Body, Reply, Request, small_replies};
 use std::alloc::Global;
 use std::test::Fail;
 
@@ -18,61 +18,258 @@ const NOOP: &str = "80 0a 0000 00 00 0000 00000000 00000009 0000000000000000";
 
 const NOOP_DONE: &str = "81 0a 0000 00 00 0000 00000000 00000009 0000000000000000";
 
-const VERSION: &str = "80 0b 0000 00 00 0000 00000000 00000002 0000000000000000";
-
-const VERSION_TOLD: &str = "81 0b 0000 00 00 0000 00000005 00000002 0000000000000000 312e302e30";
-
-const UNKNOWN: &str = "80 3f 0000 00 00 0000 00000000 00000003 0000000000000000";
-
-const UNKNOWN_REFUSED: &str = "81 3f 0000 00 00 0081 00000000 00000003 0000000000000000";
-
-const QUIT: &str = "80 07 0000 00 00 0000 00000000 00000004 0000000000000000";
-
-const QUIT_DONE: &str = "81 07 0000 00 00 0000 00000000 00000004 0000000000000000";
-
-const QUITQ: &str = "80 17 0000 00 00 0000 00000000 00000005 0000000000000000";
-
-const HELLO: &str = "\
-    80 1f 0003 00 00 0000 0000000b 00000000 0000000000000000 73646b 0003 0004 000b 0012";
-
-const TOKEN_AND_COLLECTIONS_GRANTED: &str =
-    "81 1f 0000 00 00 0000 00000004 00000000 0000000000000000 0004 0012";
-
-const HELLO_FOR_NOTHING: &str = "80 1f 0000 00 00 0000 00000000 00000000 0000000000000000";
-
-const NOTHING_GRANTED: &str = "81 1f 0000 00 00 0000 00000000 00000000 0000000000000000";
-
-const HELLO_TWICE: &str = "80 1f 0000 00 00 0000 00000006 00000000 0000000000000000 0010 0004 0010";
-
-const EACH_GRANTED_ONCE: &str =
-    "81 1f 0000 00 00 0000 00000004 00000000 0000000000000000 0010 0004";
-
-const ODD_HELLO: &str = "80 1f 0000 00 00 0000 00000003 00000000 0000000000000000 0006 00";
-
-const ODD_HELLO_REFUSED: &str = "81 1f 0000 00 00 0004 00000000 00000000 0000000000000000";
-
 const SET_DONE: &str = "81 01 0000 00 00 0000 00000000 00000001 0000000000000001";
 
 const SET_DONE_WITH_TOKEN: &str = "\
     81 01 0000 10 00 0000 00000010 00000001 0000000000000001 \
     0000000000000004 0000000000000001";
 
-// The request of GET.
-fn get_of_a(alloc: Global) -> Result<Request, NoMemory> {
-    let key = Bytes::from_slice(alloc, b"a")?;
-    Ok(Request {
-        opcode: 0x00,
-        opaque: 0xdeadbeef,
-        cas: 0,
-        vbucket: 0,
-        durability: None,
-        body: Body::Get {
-            key: DocKey { collection: 0, key },
-        },
-    })
+const GET_DONE: &str = "81 0c 0001 04 00 0000 00000007 00000001 0000000000000005 0000002a 61 6869";
+
+const GET_DONE_AS_JSON: &str =
+    "81 0c 0001 04 01 0000 00000007 00000001 0000000000000005 0000002a 61 6869";
+
+const GET_DONE_IN_8: &str =
+    "81 0c 0002 04 00 0000 00000008 00000001 0000000000000005 0000002a 0861 6869";
+
+const GET_DONE_IN_8_AS_JSON: &str =
+    "81 0c 0002 04 01 0000 00000008 00000001 0000000000000005 0000002a 0861 6869";
+
+const MAGIC: usize = 1;
+
+const LENGTHS: usize = 2;
+
+const TOO_BIG: usize = 3;
+
+const EXTRA: usize = 4;
+
+/// A name for what is given out, and two numbers that it tells: of a Get the collection and the
+/// length of the name, of a reply opcode and status, the bytes that are missing, and place and kind
+/// of a fault.
+type Given = (&'static str, usize, usize);
+
+/// Whether a session is new, a piece that it is offered, how many of its bytes are taken, what is
+/// given out, what is sent of a reply of its own, and how many bytes are held.
+type Offer<'a> = (bool, &'a str, usize, Given, &'a str, usize);
+
+/// The collection of a Get's key and how many bytes its name has.
+fn key_of(request: &Request) -> (usize, usize) {
+    match &request.body {
+        Body::Get { key } => (key.collection as usize, key.key.len()),
+        _ => (0, 0),
+    }
 }
 
-// What a Set is answered that made the first change of term 4.
+/// A number for a fault.
+fn number_of(fault: &Fault) -> usize {
+    match fault {
+        Fault::Magic => MAGIC,
+        Fault::Lengths => LENGTHS,
+        Fault::TooBig => TOO_BIG,
+        Fault::Extra => EXTRA,
+    }
+}
+
+fn given(next: &Next) -> Given {
+    match next {
+        Next::Request(request) => {
+            let (collection, length) = key_of(request);
+            ("request", collection, length)
+        }
+        Next::Refused(reply) => (
+            "reply",
+            usize::from(reply.opcode),
+            usize::from(reply.status.code),
+        ),
+        Next::More(missing) => ("more", *missing, 0),
+        Next::Bad(place, fault) => ("bad", *place, number_of(fault)),
+        Next::Quit => ("quit", 0, 0),
+        Next::NoMemory => ("no memory", 0, 0),
+    }
+}
+
+/// What is sent of what a session gives out.
+fn sent(alloc: Global, session: &Session, next: &Next) -> Result<Vec<u8>, NoMemory>
+    requires { (reply : _) → next.now ≡ Next.Refused reply → IsReply reply }
+{
+    let mut out = Vec::new(alloc);
+    match next {
+        Next::Refused(reply) => session.answer(reply, &mut out)?,
+        _ => {}
+    }
+    Ok(out)
+}
+
+/// How many bytes of a piece are taken, what is then given out, and what is sent of it.
+fn offer(
+    alloc: Global,
+    session: &mut Session,
+    piece: &[u8],
+) -> Result<(usize, Given, Vec<u8>), NoMemory> {
+    let (taken, next) = session.advance(piece)?;
+    let out = sent(alloc, session, &next)?;
+    Ok((taken, given(&next), out))
+}
+
+/// The same, by two calls.
+fn feed_and_ask(
+    alloc: Global,
+    session: &mut Session,
+    piece: &[u8],
+) -> Result<(usize, Given, Vec<u8>), NoMemory> {
+    let taken = session.feed(piece)?;
+    let next = session.next_request();
+    let out = sent(alloc, session, &next)?;
+    Ok((taken, given(&next), out))
+}
+
+/// Pieces one after the other.
+const OFFERS: [Offer<'static>; 27] = [
+    // A frame is taken up to its end, and no further.
+    (
+        true,
+        "80 00 0001 00 00 0000 00000001 deadbeef 0000000000000000 61 80 0a 0000 00 00 0000 00000000 00000009 0000000000000000",
+        25,
+        ("request", 0, 1),
+        "",
+        0,
+    ),
+    (false, NOOP, 24, ("reply", 0x0a, 0), NOOP_DONE, 0),
+    // A frame in three pieces.
+    (
+        true,
+        "80 00 0001 00 00 0000 0000",
+        10,
+        ("more", 14, 0),
+        "",
+        10,
+    ),
+    (
+        false,
+        "0001 deadbeef 0000000000000000",
+        14,
+        ("more", 1, 0),
+        "",
+        24,
+    ),
+    (false, "61", 1, ("request", 0, 1), "", 0),
+    (false, "", 0, ("more", 24, 0), "", 0),
+    // The header of a Get is cut, and then its key.
+    (
+        true,
+        "80 00 0005 00 00 0000 00000005 deadbeef 00000000000000",
+        23,
+        ("more", 1, 0),
+        "",
+        23,
+    ),
+    (false, "00", 1, ("more", 5, 0), "", 24),
+    (false, "61 6263", 3, ("more", 2, 0), "", 27),
+    (false, "64 65", 2, ("request", 0, 5), "", 0),
+    // What is no frame is told with its place from then on.
+    (true, GET, 25, ("request", 0, 1), "", 0),
+    (
+        false,
+        "82 00 0001 00 00 0000 00000001 deadbeef 0000000000000000 61",
+        24,
+        ("bad", 0, MAGIC),
+        "",
+        24,
+    ),
+    (false, GET, 0, ("bad", 0, MAGIC), "", 24),
+    (true, GET, 25, ("request", 0, 1), "", 0),
+    (
+        false,
+        "80 00 0002 00 00 0000 00000001 00000000 0000000000000000 61",
+        24,
+        ("bad", 8, LENGTHS),
+        "",
+        24,
+    ),
+    (false, GET, 0, ("bad", 8, LENGTHS), "", 24),
+    (true, GET, 25, ("request", 0, 1), "", 0),
+    (
+        false,
+        "80 00 0002 00 00 0000 01600001 00000000 0000000000000000 61",
+        24,
+        ("bad", 8, TOO_BIG),
+        "",
+        24,
+    ),
+    (false, GET, 0, ("bad", 8, TOO_BIG), "", 24),
+    // What asks nothing of documents is answered.
+    (true, NOOP, 24, ("reply", 0x0a, 0), NOOP_DONE, 0),
+    (
+        false,
+        "80 0b 0000 00 00 0000 00000000 00000002 0000000000000000",
+        24,
+        ("reply", 0x0b, 0),
+        "81 0b 0000 00 00 0000 00000005 00000002 0000000000000000 312e302e30",
+        0,
+    ),
+    (
+        false,
+        "80 3f 0000 00 00 0000 00000000 00000003 0000000000000000",
+        24,
+        ("reply", 0x3f, 0x0081),
+        "81 3f 0000 00 00 0081 00000000 00000003 0000000000000000",
+        0,
+    ),
+    // A Quit ends the connection, and a quiet one is not answered.
+    (
+        true,
+        "80 07 0000 00 00 0000 00000000 00000004 0000000000000000 80 0a 0000 00 00 0000 00000000 00000009 0000000000000000",
+        24,
+        ("reply", 0x07, 0),
+        "81 07 0000 00 00 0000 00000000 00000004 0000000000000000",
+        0,
+    ),
+    (false, NOOP, 0, ("quit", 0, 0), "", 0),
+    (false, NOOP, 0, ("quit", 0, 0), "", 0),
+    (
+        true,
+        "80 17 0000 00 00 0000 00000000 00000005 0000000000000000 80 0a 0000 00 00 0000 00000000 00000009 0000000000000000",
+        24,
+        ("reply", 0x17, 0),
+        "",
+        0,
+    ),
+    (false, NOOP, 0, ("quit", 0, 0), "", 0),
+];
+
+/// The place of the first piece of which something else comes.
+fn first_wrong_offer(
+    alloc: Global,
+    rows: &[Offer<'_>],
+    by_one_call: bool,
+) -> Result<Option<usize>, Fail> {
+    let mut session = Session::new(alloc);
+    for (place, row) in rows.iter().enumerate() {
+        if row.0 {
+            session = Session::new(alloc);
+        }
+        let piece = bytes_of(alloc, row.1)?;
+        let wanted = bytes_of(alloc, row.4)?;
+        let (taken, next, out) = if by_one_call {
+            offer(alloc, &mut session, &piece)?
+        } else {
+            feed_and_ask(alloc, &mut session, &piece)?
+        };
+        if (taken, next, session.rest()) != (row.2, row.3, row.5) || out != wanted {
+            return Ok(Some(place));
+        }
+    }
+    Ok(None)
+}
+
+#[test]
+fn pieces_are_taken_and_frames_given_out(rt: HostRuntime) -> Result<(), Fail> {
+    assert_eq!(rt; first_wrong_offer(rt.alloc(), &OFFERS, true)?, None);
+    assert_eq!(rt; first_wrong_offer(rt.alloc(), &OFFERS, false)?, None);
+    Ok(())
+}
+
+/// What a Set is answered that made the first change of term 4.
 fn set_done(alloc: Global) -> Reply
     ensures { IsReply result }
 {
@@ -91,7 +288,8 @@ fn set_done(alloc: Global) -> Reply
     }
 }
 
-// What a GetK of `a` in collection 8 is answered, whose document has the flags 42 and the value `hi`.
+/// What a GetK of `a` in collection 8 is answered, whose document has the flags 42 and the value
+/// `hi`, which is told as JSON.
 fn get_done(alloc: Global) -> Result<Reply, NoMemory>
     ensures { IfOk result IsReply }
 {
@@ -103,7 +301,7 @@ fn get_done(alloc: Global) -> Result<Reply, NoMemory>
         opaque: 1,
         status: Status::SUCCESS,
         cas: 5,
-        json: false,
+        json: true,
         flags: Some(42),
         token: None,
         extras: Bytes::new(alloc),
@@ -112,332 +310,145 @@ fn get_done(alloc: Global) -> Result<Reply, NoMemory>
     })
 }
 
-fn request_of(next: Next) -> Option<Request> {
-    match next {
-        Next::Request(request) => Some(request),
-        _ => None,
-    }
-}
+/// A Hello and its reply, what a Set and a GetK are answered from then on, and the collection and
+/// the length of the name that a Get's key 08 61 is read as.
+type Greeting<'a> = (&'a str, &'a str, &'a str, &'a str, (usize, usize));
 
-// The collection of a Get's key, and how many bytes its name has.
-fn key_of(request: &Request) -> Option<(u32, usize)> {
-    match &request.body {
-        Body::Get { key } => Some((key.collection, key.key.len())),
-        _ => None,
-    }
-}
+/// Hellos to one session, one after the other; the third and the fifth have an odd length.
+const GREETINGS: [Greeting<'static>; 8] = [
+    (
+        "80 1f 0000 00 00 0000 00000000 00000000 0000000000000000",
+        "81 1f 0000 00 00 0000 00000000 00000000 0000000000000000",
+        SET_DONE,
+        GET_DONE,
+        (0, 2),
+    ),
+    (
+        "80 1f 0003 00 00 0000 0000000b 00000000 0000000000000000 73646b 0003 0004 000b 0012",
+        "81 1f 0000 00 00 0000 00000006 00000000 0000000000000000 0004 000b 0012",
+        SET_DONE_WITH_TOKEN,
+        GET_DONE_IN_8_AS_JSON,
+        (8, 1),
+    ),
+    (
+        "80 1f 0000 00 00 0000 00000003 00000000 0000000000000000 0006 00",
+        "81 1f 0000 00 00 0004 00000000 00000000 0000000000000000",
+        SET_DONE_WITH_TOKEN,
+        GET_DONE_IN_8_AS_JSON,
+        (8, 1),
+    ),
+    (
+        "80 1f 0000 00 00 0000 00000000 00000000 0000000000000000",
+        "81 1f 0000 00 00 0000 00000000 00000000 0000000000000000",
+        SET_DONE,
+        GET_DONE,
+        (0, 2),
+    ),
+    (
+        "80 1f 0000 00 00 0000 00000003 00000000 0000000000000000 0006 00",
+        "81 1f 0000 00 00 0004 00000000 00000000 0000000000000000",
+        SET_DONE,
+        GET_DONE,
+        (0, 2),
+    ),
+    (
+        "80 1f 0000 00 00 0000 00000006 00000000 0000000000000000 0010 0004 0010",
+        "81 1f 0000 00 00 0000 00000004 00000000 0000000000000000 0010 0004",
+        SET_DONE_WITH_TOKEN,
+        GET_DONE,
+        (0, 2),
+    ),
+    (
+        "80 1f 0000 00 00 0000 00000002 00000000 0000000000000000 000b",
+        "81 1f 0000 00 00 0000 00000002 00000000 0000000000000000 000b",
+        SET_DONE,
+        GET_DONE_AS_JSON,
+        (0, 2),
+    ),
+    (
+        "80 1f 0000 00 00 0000 0000000a 00000000 0000000000000000 0006 0007 0012 0011 000a",
+        "81 1f 0000 00 00 0000 00000008 00000000 0000000000000000 0006 0007 0012 0011",
+        SET_DONE,
+        GET_DONE_IN_8,
+        (8, 1),
+    ),
+];
 
-fn missing_of(next: Next) -> Option<usize> {
-    match next {
-        Next::More(missing) => Some(missing),
-        _ => None,
-    }
-}
-
-fn bad_of(next: Next) -> Option<(usize, Fault)> {
-    match next {
-        Next::Bad(place, fault) => Some((place, fault)),
-        _ => None,
-    }
-}
-
-fn is_quit(next: Next) -> bool {
-    match next {
-        Next::Quit => true,
-        _ => false,
-    }
-}
-
-// Feeds the bytes of hexadecimal digits and answers how many were taken.
-fn feed(alloc: Global, session: &mut Session, text: &str) -> Result<usize, Fail> {
-    let piece = bytes_of(alloc, text)?;
-    Ok(session.feed(&piece)?)
-}
-
-// What is sent of the session's own reply, which is to be the next that it gives out.
-fn own_answer(alloc: Global, session: &mut Session) -> Result<Vec<u8>, Fail> {
+/// What a session sends of a reply to a request that it passed on.
+fn answered(alloc: Global, session: &Session, reply: &Reply) -> Result<Vec<u8>, NoMemory>
+    requires { IsReply reply.now }
+{
     let mut out = Vec::new(alloc);
-    match session.next_request() {
-        Next::Refused(reply) => session.answer(&reply, &mut out)?,
-        _ => Err("it is no reply of the session's own")?,
-    }
+    session.answer(reply, &mut out)?;
     Ok(out)
 }
 
-#[test]
-fn a_frame_that_lies_in_a_piece_is_read_there(rt: HostRuntime) -> Result<(), Fail> {
-    let alloc = rt.alloc();
+/// Whether a session changes at a Hello as it should.
+fn is_greeted(alloc: Global, session: &mut Session, row: &Greeting<'_>) -> Result<bool, Fail> {
+    let hello = bytes_of(alloc, row.0)?;
+    let (_, _, told) = offer(alloc, session, &hello)?;
+    let set = answered(alloc, session, &set_done(alloc))?;
+    let get = answered(alloc, session, &get_done(alloc)?)?;
+    let piece = bytes_of(alloc, GET_BEHIND_AN_8)?;
+    let (_, next, _) = offer(alloc, session, &piece)?;
+    Ok(
+        told == bytes_of(alloc, row.1)?
+            && set == bytes_of(alloc, row.2)?
+            && get == bytes_of(alloc, row.3)?
+            && next == ("request", row.4.0, row.4.1),
+    )
+}
+
+/// The place of the first Hello that changes something else.
+fn first_wrong_greeting(alloc: Global, rows: &[Greeting<'_>]) -> Result<Option<usize>, Fail> {
     let mut session = Session::new(alloc);
-    let mut piece = bytes_of(alloc, GET)?;
-    let behind = bytes_of(alloc, NOOP)?;
-    piece.extend_from_slice(&behind)?;
-    let (taken, next) = session.advance(&piece)?;
-    assert_eq!(rt; taken, 25);
-    assert_eq!(rt; request_of(next).ok_or("no request")?, get_of_a(alloc)?);
-    assert_eq!(rt; (session.rest(), session.reserved()), (0, 0));
-    Ok(())
+    for (place, row) in rows.iter().enumerate() {
+        if !is_greeted(alloc, &mut session, row)? {
+            return Ok(Some(place));
+        }
+    }
+    Ok(None)
 }
 
 #[test]
-fn pieces_are_taken_and_a_request_given_out_in_one_call(rt: HostRuntime) -> Result<(), Fail> {
-    let alloc = rt.alloc();
-    let whole = bytes_of(alloc, GET)?;
-    for size in [1, 10, 24, 25] {
-        let mut session = Session::new(alloc);
-        for piece in whole.chunks(size) {
-            let (taken, next) = session.advance(piece)?;
-            assert_eq!(rt; taken, piece.len());
-            match next {
-                Next::More(missing) => assert!(rt; missing > 0 && session.rest() > 0),
-                next => assert_eq!(rt; request_of(next).ok_or("no request")?, get_of_a(alloc)?),
-            }
-        }
-        assert_eq!(rt; session.rest(), 0);
-    }
+fn a_hello_decides_how_keys_and_replies_are_spelled(rt: HostRuntime) -> Result<(), Fail> {
+    assert_eq!(rt; first_wrong_greeting(rt.alloc(), &GREETINGS)?, None);
     Ok(())
+}
+
+/// Sets without their values, how many bytes these have, and whether memory is kept behind them.
+const LONG_FRAMES: [(&str, usize, bool); 2] = [
+    (
+        "80 01 0001 08 00 0000 0000000a 00000001 0000000000000000 0000000000000000 61",
+        1,
+        true,
+    ),
+    (
+        "80 01 0001 08 00 0000 00011179 00000001 0000000000000000 0000000000000000 61",
+        70_000,
+        false,
+    ),
+];
+
+/// The place of the first frame for which too little memory is taken, or is kept otherwise.
+fn first_wrong_length(alloc: Global, rows: &[(&str, usize, bool)]) -> Result<Option<usize>, Fail> {
+    let mut session = Session::new(alloc);
+    for (place, row) in rows.iter().enumerate() {
+        let front = bytes_of(alloc, row.0)?;
+        let (_, next, _) = offer(alloc, &mut session, &front)?;
+        let taken = session.reserved();
+        let value = vec![in alloc; b'v'; row.1]?;
+        let (_, last, _) = offer(alloc, &mut session, &value)?;
+        let is_kept = session.reserved() > 0;
+        if next != ("more", row.1, 0) || last.0 != "request" || taken <= row.1 || is_kept != row.2 {
+            return Ok(Some(place));
+        }
+    }
+    Ok(None)
 }
 
 #[test]
 fn memory_for_a_long_frame_is_given_back(rt: HostRuntime) -> Result<(), Fail> {
-    let alloc = rt.alloc();
-    let mut session = Session::new(alloc);
-    // Sets of 1 and of 70,000 bytes, without their values.
-    for (head, count, kept) in [
-        (
-            "80 01 0001 08 00 0000 0000000a 00000001 0000000000000000 0000000000000000 61",
-            1,
-            true,
-        ),
-        (
-            "80 01 0001 08 00 0000 00011179 00000001 0000000000000000 0000000000000000 61",
-            70_000,
-            false,
-        ),
-    ] {
-        let front = bytes_of(alloc, head)?;
-        let (_, next) = session.advance(&front)?;
-        assert_eq!(rt; missing_of(next), Some(count));
-        assert!(rt; session.reserved() > count);
-        let value = vec![in alloc; b'v'; count]?;
-        let (_, next) = session.advance(&value)?;
-        assert!(rt; request_of(next).is_some());
-        assert_eq!(rt; session.reserved() > 0, kept);
-    }
-    Ok(())
-}
-
-#[test]
-fn a_request_is_given_out_once_however_it_is_cut(rt: HostRuntime) -> Result<(), Fail> {
-    let alloc = rt.alloc();
-    let whole = bytes_of(alloc, GET)?;
-    for size in [1, 10, 24, 25] {
-        let mut session = Session::new(alloc);
-        for piece in whole.chunks(size) {
-            assert!(rt; missing_of(session.next_request()).is_some());
-            assert_eq!(rt; session.feed(piece)?, piece.len());
-        }
-        assert_eq!(rt; session.rest(), 25);
-        let request = request_of(session.next_request()).ok_or("no request")?;
-        assert_eq!(rt; request, get_of_a(alloc)?);
-        assert_eq!(rt; session.rest(), 0);
-        assert_eq!(rt; missing_of(session.next_request()), Some(24));
-    }
-    Ok(())
-}
-
-#[test]
-fn the_bytes_that_are_missing_are_told(rt: HostRuntime) -> Result<(), Fail> {
-    let alloc = rt.alloc();
-    let mut session = Session::new(alloc);
-    for (piece, length, missing) in [
-        (
-            "80 00 0005 00 00 0000 00000005 deadbeef 00000000000000",
-            23,
-            1,
-        ),
-        ("00", 1, 5),
-        ("61 6263", 3, 2),
-    ] {
-        assert_eq!(rt; feed(alloc, &mut session, piece)?, length);
-        assert_eq!(rt; missing_of(session.next_request()), Some(missing));
-    }
-    assert_eq!(rt; feed(alloc, &mut session, "64 65")?, 2);
-    assert!(rt; request_of(session.next_request()).is_some());
-    Ok(())
-}
-
-#[test]
-fn a_piece_is_taken_up_to_the_end_of_a_frame(rt: HostRuntime) -> Result<(), Fail> {
-    let alloc = rt.alloc();
-    let mut session = Session::new(alloc);
-    let mut piece = bytes_of(alloc, GET)?;
-    let second = bytes_of(alloc, NOOP)?;
-    piece.extend_from_slice(&second)?;
-    assert_eq!(rt; session.feed(&piece)?, 25);
-    assert_eq!(rt; session.feed(&second)?, 0);
-    assert_eq!(rt; session.rest(), 25);
-    assert!(rt; request_of(session.next_request()).is_some());
-    assert_eq!(rt; session.feed(&second)?, 24);
-    assert_eq!(rt;
-        own_answer(alloc, &mut session)?,
-        bytes_of(alloc, NOOP_DONE)?
-    );
-    Ok(())
-}
-
-#[test]
-fn a_fault_is_told_with_its_place_from_then_on(rt: HostRuntime) -> Result<(), Fail> {
-    let alloc = rt.alloc();
-    for (text, place, fault) in [
-        (
-            "82 00 0001 00 00 0000 00000001 deadbeef 0000000000000000 61",
-            0,
-            Fault::Magic,
-        ),
-        (
-            "80 00 0002 00 00 0000 00000001 00000000 0000000000000000 61",
-            8,
-            Fault::Lengths,
-        ),
-        (
-            "80 00 0002 00 00 0000 01600001 00000000 0000000000000000 61",
-            8,
-            Fault::TooBig,
-        ),
-    ] {
-        let mut session = Session::new(alloc);
-        assert_eq!(rt; feed(alloc, &mut session, GET)?, 25);
-        assert!(rt; request_of(session.next_request()).is_some());
-        assert_eq!(rt; feed(alloc, &mut session, text)?, 24);
-        assert_eq!(rt; bad_of(session.next_request()), Some((place, fault)));
-        assert_eq!(rt; feed(alloc, &mut session, GET)?, 0);
-        assert_eq!(rt; bad_of(session.next_request()), Some((place, fault)));
-        assert_eq!(rt; session.rest(), 24);
-    }
-    Ok(())
-}
-
-#[test]
-fn what_asks_nothing_of_documents_is_answered(rt: HostRuntime) -> Result<(), Fail> {
-    let alloc = rt.alloc();
-    let mut session = Session::new(alloc);
-    for (text, wanted) in [
-        (NOOP, NOOP_DONE),
-        (VERSION, VERSION_TOLD),
-        (UNKNOWN, UNKNOWN_REFUSED),
-    ] {
-        feed(alloc, &mut session, text)?;
-        assert_eq!(rt; own_answer(alloc, &mut session)?, bytes_of(alloc, wanted)?);
-    }
-    Ok(())
-}
-
-#[test]
-fn hello_decides_whether_tokens_are_sent(rt: HostRuntime) -> Result<(), Fail> {
-    let alloc = rt.alloc();
-    let mut session = Session::new(alloc);
-    let set = set_done(alloc);
-    for (hello, wanted, sent) in [
-        (HELLO_FOR_NOTHING, NOTHING_GRANTED, SET_DONE),
-        (HELLO, TOKEN_AND_COLLECTIONS_GRANTED, SET_DONE_WITH_TOKEN),
-        (ODD_HELLO, ODD_HELLO_REFUSED, SET_DONE_WITH_TOKEN),
-        (HELLO_FOR_NOTHING, NOTHING_GRANTED, SET_DONE),
-        (ODD_HELLO, ODD_HELLO_REFUSED, SET_DONE),
-        (HELLO_TWICE, EACH_GRANTED_ONCE, SET_DONE_WITH_TOKEN),
-    ] {
-        feed(alloc, &mut session, hello)?;
-        assert_eq!(rt; own_answer(alloc, &mut session)?, bytes_of(alloc, wanted)?);
-        let mut out = Vec::new(alloc);
-        session.answer(&set, &mut out)?;
-        assert_eq!(rt; out, bytes_of(alloc, sent)?);
-    }
-    Ok(())
-}
-
-#[test]
-fn a_reply_has_flags_key_and_value_one_behind_the_other(rt: HostRuntime) -> Result<(), Fail> {
-    let alloc = rt.alloc();
-    let mut session = Session::new(alloc);
-    let reply = get_done(alloc)?;
-    for (hello, sent) in [
-        (
-            HELLO_FOR_NOTHING,
-            "81 0c 0001 04 00 0000 00000007 00000001 0000000000000005 0000002a 61 6869",
-        ),
-        (
-            HELLO,
-            "81 0c 0002 04 00 0000 00000008 00000001 0000000000000005 0000002a 0861 6869",
-        ),
-    ] {
-        feed(alloc, &mut session, hello)?;
-        own_answer(alloc, &mut session)?;
-        let mut out = Vec::new(alloc);
-        session.answer(&reply, &mut out)?;
-        assert_eq!(rt; out, bytes_of(alloc, sent)?);
-    }
-    Ok(())
-}
-
-#[test]
-fn a_quit_is_answered_and_ends_the_connection(rt: HostRuntime) -> Result<(), Fail> {
-    let alloc = rt.alloc();
-    for (text, wanted) in [(QUIT, QUIT_DONE), (QUITQ, "")] {
-        let mut session = Session::new(alloc);
-        let mut piece = bytes_of(alloc, text)?;
-        let behind = bytes_of(alloc, NOOP)?;
-        piece.extend_from_slice(&behind)?;
-        assert_eq!(rt; session.feed(&piece)?, 24);
-        assert_eq!(rt; own_answer(alloc, &mut session)?, bytes_of(alloc, wanted)?);
-        assert!(rt; is_quit(session.next_request()));
-        assert_eq!(rt; session.feed(&behind)?, 0);
-        assert!(rt; is_quit(session.next_request()));
-        assert_eq!(rt; session.rest(), 0);
-    }
-    Ok(())
-}
-
-#[test]
-fn a_quiet_reply_is_sent_only_where_it_tells_something(rt: HostRuntime) -> Result<(), Fail> {
-    let alloc = rt.alloc();
-    let session = Session::new(alloc);
-    for (opcode, status, wanted) in [
-        (0x09, Status::KEY_ENOENT, ""),
-        (
-            0x09,
-            Status::SUCCESS,
-            "81 09 0000 00 00 0000 00000000 00000007 0000000000000000",
-        ),
-        (0x11, Status::SUCCESS, ""),
-        (
-            0x11,
-            Status::KEY_EEXISTS,
-            "81 11 0000 00 00 0002 00000000 00000007 0000000000000000",
-        ),
-    ] {
-        let mut out = bytes_of(alloc, "ff")?;
-        session.answer(&refusal(alloc, opcode, 7, status), &mut out)?;
-        let mut whole = bytes_of(alloc, "ff")?;
-        let sent = bytes_of(alloc, wanted)?;
-        whole.extend_from_slice(&sent)?;
-        assert_eq!(rt; out, whole);
-    }
-    Ok(())
-}
-
-#[test]
-fn hello_decides_whether_keys_begin_with_a_collection(rt: HostRuntime) -> Result<(), Fail> {
-    let alloc = rt.alloc();
-    let mut session = Session::new(alloc);
-    for (hello, collection, name) in [
-        (HELLO_FOR_NOTHING, 0, 2),
-        (HELLO, 8, 1),
-        (HELLO_TWICE, 0, 2),
-    ] {
-        feed(alloc, &mut session, hello)?;
-        own_answer(alloc, &mut session)?;
-        feed(alloc, &mut session, GET_BEHIND_AN_8)?;
-        let request = request_of(session.next_request()).ok_or("no request")?;
-        assert_eq!(rt; key_of(&request), Some((collection, name)));
-    }
+    assert_eq!(rt; first_wrong_length(rt.alloc(), &LONG_FRAMES)?, None);
     Ok(())
 }
