@@ -27,6 +27,7 @@ use Rattle.subdoc_step.specs.Answers.{looked_up, edited}
 use Rattle.subdoc_step.proofs.Texts.{text_answered, text_only}
 use Rattle.subdoc_step.proofs.Looked.{looked_only}
 use Rattle.subdoc_step.proofs.Edited.{edited_only}
+use Rattle.subdoc_step.proofs.Left.{leaves_json}
 
 -- ---- texts
 
@@ -45,7 +46,9 @@ json_is false value found only = told_false value (λ d is. let h = only d is in
 
 -- what an edit leaves is JSON
 json_again : (edit : Edit) (several : Bool) (bytes path value : List ℕ) (e : EditedText) → Edits edit several bytes path value (Ok e) → is_text e.text ≡ true
-json_again edit several bytes path value e edits = ?
+json_again edit several bytes path value e edits =
+    let (d, is) = leaves_json edit several bytes path value e edits in
+    sym (ap (λ (r : Result Document Status). is_ok r) (text_only e.text (Ok d) (inl (d, is, refl))))
 
 -- ---- look-ups and edits
 

@@ -31,7 +31,7 @@ use Rattle.doc_step.specs.Counter.{number_of, moved}
 use Rattle.doc_step.specs.Step.{cas_refusal, changing, carrying, storing, with_value, get_step, stored_doc, store_step, delete_step, new_counter, count_step, joined_value, join_step, touched_doc, touched_reply, touch_step, look_answered, look_step, number_text, edit_answered, makes_several, doc_to_edit, edit_made, edit_step, operation, document_step}
 use Rattle.doc_step.specs.Laws.{IsSmallDoc, IsSmallChange, HasSmallInitial}
 use Rattle.subdoc_step.proofs.Numbers.{number_bytes, edited_short}
-use Rattle.subdoc_step.proofs.Pieces.{looked_within}
+use Rattle.subdoc_step.proofs.Within.{found_within}
 use Rattle.doc_step.proofs.Counting.{decimal_short, number_small, moved_small}
 
 -- the result of a step, where it isn't a refusal
@@ -131,7 +131,7 @@ touch_small s request key expiry fetch (Some doc) r k h d =
 
 looked_small : (request : Request) (lookup : Lookup) (doc : Doc) (path : List ℕ) (found : Result (List ℕ) Status) → IsSmallRequest request → IsSmallDoc doc → looked_up lookup doc.value path ≡ found → IsSmallResult (look_answered request doc found)
 looked_small request lookup doc path (Ok piece) r d e =
-    record { reply = changing_small request doc.cas piece r d.cas (omega (arith, looked_within lookup doc.value path piece (omega (arith, d.value)) e, d.value)); effect = tt }
+    record { reply = changing_small request doc.cas piece r d.cas (omega (arith, found_within lookup doc.value path piece e, d.value)); effect = tt }
 looked_small request lookup doc path (Err refusing) r d e = tt
 
 look_small : (request : Request) (spec : Spec) (doc : Option Doc) (lookup : Option Lookup) → IsSmallRequest request → IfSome doc IsSmallDoc → IsSmallResult (option_map_or {U = Result Change Status} (look_step request spec doc) lookup (Err status.UNKNOWN_COMMAND))

@@ -4,7 +4,6 @@ pub mod Followed
 pub mod Firsts
 pub mod Looked
 pub mod Numbers
-pub mod Pieces
 pub mod Given
 pub mod Deep
 pub mod Edited
