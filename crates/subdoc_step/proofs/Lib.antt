@@ -16,3 +16,5 @@ pub mod Left
 pub mod Within
 pub mod Ways
 pub mod Put
+pub mod Members
+pub mod Stays
