@@ -18,3 +18,4 @@ pub mod Ways
 pub mod Put
 pub mod Members
 pub mod Stays
+pub mod Others

@@ -1,5 +1,5 @@
 -- The first member of a name, and what changes leave of it.
-use Rattle.std.proofs.Common.{◌≡◌, ◌≢◌, ℕ, zero, suc, List, [], ◌∷◌, drop, Bool, true, false, cond, Option, Some, None, Result, Ok, Err, inl, inr, refl, sym, ap, subst, ◌∙◌}
+use Rattle.std.proofs.Common.{◌≡◌, ◌≢◌, ℕ, zero, suc, List, [], ◌∷◌, drop, Bool, true, false, cond, Option, Some, None, Result, Err, inl, inr, refl, sym, ap, subst, ◌∙◌}
 use Rattle.std.specs.Prelude.{option_map, if◌then◌else◌}
 use Rattle.doc_model.specs.declared.status.Status.{Status}
 use Rattle.doc_model.specs.declared.status.TheConstants.Status as status
@@ -8,10 +8,9 @@ use Rattle.json_model.specs.declared.kinds.Shape.TheVariants as shapes
 use Rattle.json_model.specs.declared.asked.Part.{Part}
 use Rattle.json_model.specs.declared.asked.Part.TheVariants.{Member}
 use Rattle.json_model.specs.declared.asked.Lookup.{Lookup}
-use Rattle.json_model.specs.Decoding.{decode}
 use Rattle.json_model.specs.Spelled.{Head, plain, keyed, Tree, leaf, empty, group, Parts, last, more, PartsFit}
 use Rattle.json_model.specs.Follow.{IsCalled, IsFirstCalled, child, Outcome, reached, missing, mismatch, over}
-use Rattle.json_model.specs.Moves.{at_part, gap_before, led_head, led, ended, pushed, without}
+use Rattle.json_model.specs.Moves.{at_part, gap_before, led, pushed, without}
 use Rattle.json_model.specs.Edit.{look_at}
 use Rattle.subdoc_path.specs.Matching.{matches}
 use Rattle.subdoc_path.proofs.Matches.{matched}

@@ -1,7 +1,6 @@
 -- What paths of names find that part from an edit's path stays.
-use Rattle.std.proofs.Common.{◌≡◌, ◌≢◌, ℕ, zero, suc, List, [], ◌∷◌, length, Bool, true, false, cond, Option, Some, None, Result, Ok, Err, ◌⊎◌, inl, inr, refl, sym, ap, subst, ◌∙◌}
+use Rattle.std.proofs.Common.{◌≡◌, ◌≢◌, ℕ, List, [], ◌∷◌, Bool, cond, Option, Some, None, Err, ◌⊎◌, inl, inr, refl, sym, ap, subst, ◌∙◌}
 use Rattle.std.specs.Prelude.{IsUtf8, option_map}
-use Rattle.doc_model.specs.declared.status.Status.{Status}
 use Rattle.doc_model.specs.declared.status.TheConstants.Status as status
 use Rattle.json_model.specs.declared.kinds.Shape.{Shape}
 use Rattle.json_model.specs.declared.kinds.Shape.TheVariants as shapes
@@ -9,15 +8,15 @@ use Rattle.json_model.specs.declared.asked.Part.{Part}
 use Rattle.json_model.specs.declared.asked.Part.TheVariants.{Member, At, Last}
 use Rattle.json_model.specs.declared.asked.Lookup.{Lookup}
 use Rattle.json_model.specs.Spelled.{Tree, leaf, empty, group, Parts, last, more, Fits, PartsFit}
-use Rattle.json_model.specs.Follow.{IsFirstCalled, Names, asks, child, Outcome, reached, missing, mismatch, over, Follows}
-use Rattle.json_model.specs.Moves.{at_part, at_trail, pushed, Change, put, push, insert, remove, changed}
+use Rattle.json_model.specs.Follow.{IsFirstCalled, Names, asks, child, missing, mismatch, Follows}
+use Rattle.json_model.specs.Moves.{at_part, at_trail, pushed, push, insert, remove, changed}
 use Rattle.json_model.specs.Edit.{array_elements, names_of, member, nested, look_at}
 use Rattle.subdoc_step.specs.Paths.{is_called, followed}
 use Rattle.subdoc_step.specs.Apart.{AreNames, Apart}
 use Rattle.subdoc_step.proofs.Followed.{child_fits}
 use Rattle.subdoc_step.proofs.Keys.{key_stands}
 use Rattle.subdoc_step.proofs.Names.{NamesUtf8}
-use Rattle.subdoc_step.proofs.Members.{called_is, called_other, member_of, Seen, behind_member, looked_in, look_member, member_kept, member_without, member_pushed, member_new, member_changed, none_member}
+use Rattle.subdoc_step.proofs.Members.{called_is, called_other, Seen, behind_member, looked_in, look_member, member_kept, member_without, member_pushed, member_new, member_changed, none_member}
 use Rattle.subdoc_step.proofs.Put.{new_head}
 use Rattle.subdoc_step.proofs.Trails.{over_missing}
 use Rattle.subdoc_step.proofs.Ways.{Way, at_end, down}

@@ -1,4 +1,4 @@
--- What comes with an edit, or why it is refused.
+-- Look-ups and edits of a JSON text as functions.
 pub mod Texts
 pub mod Paths
 pub mod Given
