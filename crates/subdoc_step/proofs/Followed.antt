@@ -16,9 +16,9 @@ use Rattle.subdoc_step.specs.Paths.{same_shape, is_called, first_called, named, 
 -- ---- names
 
 -- a test says whether a head has a name
-record Calls (name : List ℕ) (h : Head) (b : Bool) : Type 0 where
-  sound : b ≡ true → IsCalled name h
-  whole : IsCalled name h → b ≡ true
+pub record Calls (name : List ℕ) (h : Head) (b : Bool) : Type 0 where
+  pub sound : b ≡ true → IsCalled name h
+  pub whole : IsCalled name h → b ≡ true
 
 no_name : (name gap : List ℕ) → Calls name (plain gap) false
 no_name name gap = record { sound = λ e. no_call e; whole = λ called. absurd called }
@@ -26,7 +26,7 @@ no_name name gap = record { sound = λ e. no_call e; whole = λ called. absurd c
     no_call : false ≡ true → ⊥
     no_call e = cc
 
-calls : (name : List ℕ) (shape : Shape) (h : Head) → HeadFits shape h → Calls name h (is_called name h)
+pub calls : (name : List ℕ) (shape : Shape) (h : Head) → HeadFits shape h → Calls name h (is_called name h)
 calls name shapes.Array (plain gap) fits = no_name name gap
 calls name shapes.Array (keyed gap key behind before) fits = absurd fits
 calls name shapes.Object (plain gap) fits = absurd fits

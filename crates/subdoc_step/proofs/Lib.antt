@@ -17,3 +17,6 @@ pub mod Left
 pub mod Within
 pub mod Ways
 pub mod Put
+pub mod Members
+pub mod Stays
+pub mod Others

@@ -37,7 +37,7 @@ use Rattle.subdoc_step.proofs.Ways.{Way, reached_way, missing_way, way_follows, 
 -- ---- a new member is found
 
 -- the head of a new member
-abbrev new_head : List ℕ → Head
+abbrev pub new_head : List ℕ → Head
 new_head name = keyed [] (key_text name) [] []
 
 pushed_first : (name : List ℕ) (ps : Parts) (h : Head) (t : Tree) (gap : List ℕ) → ((k : ℕ) → IsFirstCalled name ps k → ⊥) → IsCalled name h → IsFirstCalled name (pushed (last h t gap) ps) (count ps)
@@ -119,10 +119,10 @@ put_puts parts tree trail t v f =
     record { trail = a.0; leads = a.1; old = t; reaches = reached_trail parts tree trail t f; deep = omega arith }
 
 -- names that begin with this one
-record Named (absent : List Part) (name : List ℕ) (names : List (List ℕ)) : Type 0 where
-  others : List Part
-  absent_is : Member name ∷ others ≡ absent
-  names_are : names_of others ≡ Some names
+pub record Named (absent : List Part) (name : List ℕ) (names : List (List ℕ)) : Type 0 where
+  pub others : List Part
+  pub absent_is : Member name ∷ others ≡ absent
+  pub names_are : names_of others ≡ Some names
 
 named_by : (name other : List ℕ) (names : List (List ℕ)) (ps : List Part) (o : Option (List (List ℕ))) → names_of ps ≡ o → option_map (λ names. other ∷ names) o ≡ Some (name ∷ names) → Named (Member other ∷ ps) name names
 named_by name other names ps None is e = cc
@@ -131,7 +131,7 @@ named_by name other names ps (Some ns) is e =
     let rest : ns ≡ names = cc in
     record { others = ps; absent_is = ap (λ (n : List ℕ). Member n ∷ ps) same; names_are = is ∙ ap (λ (l : List (List ℕ)). Some l) rest }
 
-named_split : (absent : List Part) (name : List ℕ) (names : List (List ℕ)) → names_of absent ≡ Some (name ∷ names) → Named absent name names
+pub named_split : (absent : List Part) (name : List ℕ) (names : List (List ℕ)) → names_of absent ≡ Some (name ∷ names) → Named absent name names
 named_split [] name names e = cc
 named_split (Member other ∷ ps) name names e = named_by name other names ps (names_of ps) refl e
 named_split (At n ∷ ps) name names e = cc

@@ -19,7 +19,7 @@ use Rattle.json_model.specs.Grammar.{Within, AreBlanks, AreDigits, IsWhole, IsNu
 use Rattle.json_model.specs.Spelled.{Head, plain, keyed, Tree, leaf, empty, group, Parts, last, more, HeadFits, Fits, PartsFit, Document}
 use Rattle.json_model.specs.Moves.{led_head, led, ended, trimmed}
 use Rattle.json_model.specs.Edit.{Asked, dict_add, dict_upsert, delete, replace, push_last, push_first, array_insert, add_unique, counter, fits_i64}
-use Rattle.json_model.specs.Order.{ends_in_index, takes}
+use Rattle.json_model.specs.Order.{ends_in_index, is_some_part, takes}
 use Rattle.json_model.specs.Values.{bracketed}
 use Rattle.json_spell.specs.declared.tokens.Stop.{Stop}
 use Rattle.json_spell.specs.Reading.{document_at}
@@ -102,7 +102,7 @@ trimmed_fits shape ps f = led_fits shape [] (ended [] ps) tt (ended_fits shape [
 abbrev pub Suits : List Part → Asked → Type 0
 Suits path (dict_add v) = Fits v
 Suits path (dict_upsert v) = Fits v
-Suits path delete = Unit {0}
+Suits path delete = is_some_part path ≡ true
 Suits path (replace v) = Fits v
 Suits path (push_last vs) = PartsFit shapes.Array vs
 Suits path (push_first vs) = PartsFit shapes.Array vs
@@ -154,7 +154,7 @@ given_suits : (edit : Edit) (path : List Part) (bytes : List ℕ) → takes edit
 unfolding given
 given_suits edits.DictAdd path bytes form = tree_suits path dict_add bytes (document_at MOST_DEEP bytes) (λ t f. f) (reads bytes)
 given_suits edits.DictUpsert path bytes form = tree_suits path dict_upsert bytes (document_at MOST_DEEP bytes) (λ t f. f) (reads bytes)
-given_suits edits.Delete path bytes form = tt
+given_suits edits.Delete path bytes form = form
 given_suits edits.Replace path bytes form = tree_suits path replace bytes (document_at MOST_DEEP bytes) (λ t f. f) (reads bytes)
 given_suits edits.ArrayPushLast path bytes form = parts_suit path push_last bytes (document_at MOST_DEEP (bracketed bytes)) (λ ps f. f) (reads (bracketed bytes))
 given_suits edits.ArrayPushFirst path bytes form = parts_suit path push_first bytes (document_at MOST_DEEP (bracketed bytes)) (λ ps f. f) (reads (bracketed bytes))

@@ -91,12 +91,12 @@ TakesElements t = (vs : Parts) → PartsFit shapes.Array vs → Takes t vs
 group_takes : (shape : Shape) (parts : Parts) → shapes.Array ≡ shape → TakesElements (group shape parts)
 group_takes shape parts e vs fits = subst (λ (s : Shape). PartsFit s vs) e fits
 
-ends_more : (p q : Part) (ps : List Part) → ends_in_index (p ∷ q ∷ ps) ≡ ends_in_index (q ∷ ps)
+pub ends_more : (p q : Part) (ps : List Part) → ends_in_index (p ∷ q ∷ ps) ≡ ends_in_index (q ∷ ps)
 ends_more (Member name) q ps = refl
 ends_more (At n) q ps = refl
 ends_more Last q ps = refl
 
-index_asks : (p : Part) → ends_in_index (p ∷ []) ≡ true → asks p ≡ shapes.Array
+pub index_asks : (p : Part) → ends_in_index (p ∷ []) ≡ true → asks p ≡ shapes.Array
 index_asks (Member name) e = cc
 index_asks (At n) e = refl
 index_asks Last e = refl

@@ -3,9 +3,10 @@ use Rattle.std.proofs.Common.{◌≡◌, ℕ, zero, suc, ◌<◌, List, [], ◌�
 use Rattle.json_model.specs.declared.kinds.Shape.{Shape}
 use Rattle.json_model.specs.declared.asked.Part.{Part}
 use Rattle.json_model.specs.declared.asked.Part.TheVariants.{Member, At, Last}
-use Rattle.json_model.specs.Spelled.{Tree, leaf, empty, group, Parts, last, more, count}
+use Rattle.json_model.specs.Spelled.{Tree, leaf, empty, group, Parts, last, more, count, Fits}
 use Rattle.json_model.specs.Follow.{IsFirstCalled, Names, asks, child, Outcome, reached, missing, mismatch, over, Follows}
 use Rattle.json_model.specs.Moves.{at_part, at_trail}
+use Rattle.subdoc_step.proofs.Followed.{child_fits}
 use Rattle.subdoc_step.proofs.Names.{NamesUtf8}
 use Rattle.subdoc_step.proofs.Trails.{over_reached, over_missing, names_behind}
 
@@ -126,3 +127,8 @@ way_changed path tree trail t rest f (down p ps shape parts k inner ks u qs s na
 pub way_names : (path : List Part) (tree : Tree) (trail : List ℕ) (t : Tree) (rest : List Part) → Way path tree trail t rest → NamesUtf8 path → NamesUtf8 rest
 way_names path tree trail t rest (at_end ps u) n = n
 way_names path tree trail t rest (down p ps shape parts k inner ks u qs s named c w) n = way_names ps inner ks u qs w (names_behind p ps n)
+
+-- the value at the end of a way in JSON is JSON
+pub way_fits : (path : List Part) (tree : Tree) (trail : List ℕ) (t : Tree) (rest : List Part) → Way path tree trail t rest → Fits tree → Fits t
+way_fits path tree trail t rest (at_end ps u) f = f
+way_fits path tree trail t rest (down p ps shape parts k inner ks u qs s named c w) f = way_fits ps inner ks u qs w (child_fits shape k parts inner c f)

@@ -88,5 +88,6 @@ followed (p ∷ ps) (empty shape gap) =
     if same_shape (asks p) shape then missing [] (empty shape gap) (p ∷ ps) else mismatch 0
 followed (p ∷ ps) (group shape parts) =
     if same_shape (asks p) shape
-    then through parts (named p parts) (λ tree. followed ps tree) (missing [] (group shape parts) (p ∷ ps))
+    then through parts (named p parts) (λ tree. followed ps tree)
+    (missing [] (group shape parts) (p ∷ ps))
     else mismatch 0

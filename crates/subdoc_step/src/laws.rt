@@ -19,6 +19,7 @@ pub fn look_ups_have_one_answer()
 pub fn edits_have_one_answer()
     ensures answered { (edit : Edit) (several : Bool) (text path value : List ℕ)
         → Edits edit several text path value (edited edit several text path value) }
-    ensures only { (edit : Edit) (several : Bool) (text path value : List ℕ) (answer : Result EditedText Status)
+    ensures only { (edit : Edit) (several : Bool) (text path value : List ℕ)
+        (answer : Result EditedText Status)
         → Edits edit several text path value answer → answer ≡ edited edit several text path value }
 {}

@@ -2,14 +2,17 @@
 
 ghost use Rattle.std.specs.Prelude.{◌≡◌, ℕ, ◌+◌, ◌≤◌, Bool, List, length, Result, Ok};
 ghost use Rattle.doc_model.specs.declared.status.Status.{Status};
+ghost use Rattle.json_model.specs.declared.asked.Part.{Part};
 ghost use Rattle.json_model.specs.declared.asked.Lookup.{Lookup};
 ghost use Rattle.json_model.specs.declared.asked.Lookup.TheVariants as lookups;
 ghost use Rattle.json_model.specs.declared.asked.Edit.{Edit};
 ghost use Rattle.json_model.specs.declared.asked.Edit.TheVariants as edits;
 ghost use Rattle.json_model.specs.declared.TheConstants.{MOST_DEEP, TEXT_LIMIT};
 ghost use Rattle.json_model.specs.Spelled.{text, Document, IsText};
+ghost use Rattle.json_model.specs.Paths.{ReadsPath};
 ghost use Rattle.json_model.specs.Order.{Edits, EditedText};
 ghost use Rattle.subdoc_step.specs.Answers.{looked_up, edited};
+ghost use Rattle.subdoc_step.specs.Apart.{AreNames, Apart};
 
 /// An edit leaves a JSON text at most 32 deep.
 pub fn edits_leave_json()
@@ -33,4 +36,15 @@ pub fn upserted_is_found()
         → edited edits.DictUpsert several bytes path value ≡ Ok e
         → (d : Document) × IsText MOST_DEEP d value
         × (looked_up lookups.Get e.text path ≡ Ok (text d.tree)) }
+{}
+
+/// An edit at one path leaves what each path of names finds that parts from it: neither is a
+/// beginning of the other.
+pub fn other_members_stay()
+    ensures { (edit : Edit) (several : Bool) (bytes path value : List ℕ) (e : EditedText)
+        (lookup : Lookup) (other : List ℕ) (parts others : List Part)
+        → edited edit several bytes path value ≡ Ok e
+        → ReadsPath path (Ok parts) → ReadsPath other (Ok others)
+        → AreNames others → Apart parts others
+        → looked_up lookup e.text other ≡ looked_up lookup bytes other }
 {}
