@@ -19,3 +19,6 @@ pub use planning::plan;
 
 #[cfg(test)]
 mod tests;
+
+#[cfg(test)]
+mod part_tests;
