@@ -4,3 +4,4 @@ pub mod Looks
 pub mod Once
 pub mod Splices
 pub mod Placed
+pub mod Rest
