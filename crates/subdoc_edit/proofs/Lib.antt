@@ -5,3 +5,4 @@ pub mod Once
 pub mod Splices
 pub mod Placed
 pub mod Rest
+pub mod Plans

@@ -5,3 +5,4 @@ pub mod Given
 pub mod Parents
 pub mod Parts
 pub mod Splicing
+pub mod Planning

@@ -18,6 +18,7 @@
 
 mod kinds;
 mod parents;
+mod plan;
 mod places;
 mod looking;
 mod reading;
