@@ -5,4 +5,5 @@ pub mod Given
 pub mod Parents
 pub mod Parts
 pub mod Splicing
+pub mod Numbers
 pub mod Planning

@@ -1,18 +1,18 @@
 -- What an edit is to write where.
-use Rattle.std.specs.Prelude.{◌≡◌, ℕ, ◌+◌, ◌-◌, ◌<◌, ◌≤◌, List, [], ◌∷◌, ◌++◌, length, take, drop, Bool, true, false, Option, None, Some, Result, Ok, Err, ◌⊎◌, ℤ}
+use Rattle.std.specs.Prelude.{◌≡◌, ℕ, ◌+◌, ◌-◌, ◌<◌, ◌≤◌, List, [], ◌∷◌, ◌++◌, length, take, drop, Bool, true, false, Option, None, Some, Result, Ok, Err, ◌⊎◌, ℤ, ◌||◌, ◌&&◌, ◌==◌}
 use Rattle.doc_model.specs.declared.status.Status.{Status}
-use Rattle.doc_model.specs.declared.status.TheConstants.Status as status
 use Rattle.doc_model.specs.declared.status.Refused.{Refused}
 use Rattle.json_model.specs.declared.TheConstants.{MOST_DEEP}
 use Rattle.json_model.specs.declared.kinds.Shape.{Shape}
 use Rattle.json_model.specs.declared.kinds.Shape.TheVariants as shapes
 use Rattle.json_model.specs.declared.asked.Edit.{Edit}
 use Rattle.json_model.specs.declared.asked.Part.{Part}
+use Rattle.json_model.specs.declared.asked.Part.TheVariants.{At}
 use Rattle.json_model.specs.Spelled.{Tree, group, Parts, text, parts_text, depth, parts_depth, count, Document, document_text, IsText}
-use Rattle.json_model.specs.Follow.{child, earlier, place}
+use Rattle.json_model.specs.Follow.{missing, Follows, earlier, place}
 use Rattle.json_model.specs.Moves.{Change, put, push, insert, remove, at_trail, changed}
 use Rattle.json_model.specs.Splices.{Reaches}
-use Rattle.json_model.specs.Edit.{Asked, Act, array_elements, counted, number_of, above, final, member, nested, made, names_of}
+use Rattle.json_model.specs.Edit.{Asked, Act, array_elements, counted, number_of, to_set, make, act, member, nested}
 use Rattle.json_model.specs.Order.{Acts}
 use Rattle.json_model.specs.Values.{Gives}
 use Rattle.json_spell.specs.declared.node.Node.{Node}
@@ -146,3 +146,58 @@ Decides asked several bytes value parts d =
 abbrev pub DecidesGiven : Edit → Bool → List ℕ → List ℕ → List Part → Given → Document → Result Plan Refused → Type 0
 DecidesGiven edit several bytes value parts g d r =
     (asked : Asked) → Gives edit value (Ok asked) → Describes value g asked → Decides asked several bytes value parts d r
+
+-- the same where the parts lead to the value at this place in the list
+abbrev pub FoundDecides : Edit → List ℕ → List ℕ → List Node → List Part → ℕ → Given → Result Plan Refused → Type 0
+FoundDecides edit bytes value nodes parts index g r =
+    (d : Document) (several : Bool) → LeadsTo bytes nodes parts d index → DecidesGiven edit several bytes value parts g d r
+
+-- the same where the part of this number names nothing that is there
+abbrev pub MissedDecides : Edit → Bool → List ℕ → List ℕ → List Node → List Part → ℕ → Given → Result Plan Refused → Type 0
+MissedDecides edit several bytes value nodes parts followed g r =
+    (d : Document) → Misses bytes nodes parts d followed → DecidesGiven edit several bytes value parts g d r
+
+-- parts of a path lead to a value at this place in the list
+abbrev pub IsFound : List ℕ → List Node → List Part → ℕ → Type 0
+IsFound bytes nodes parts index = (d : Document) × LeadsTo bytes nodes parts d index
+
+-- the part of this number names nothing that is there
+abbrev pub IsMissed : List ℕ → List Node → List Part → ℕ → Type 0
+IsMissed bytes nodes parts followed = (d : Document) × Misses bytes nodes parts d followed
+
+-- ---- arrays
+
+-- whether a value is an array
+abbrev pub TellsArray : Tree → Bool → Type 0
+TellsArray t true = IsArray t × (trees : List Tree) × (array_elements t ≡ Some trees)
+TellsArray t false = array_elements t ≡ None
+
+-- why an element of this text can't be added to a set; or that it can
+abbrev pub TellsSet : Tree → List ℕ → Option Status → Type 0
+TellsSet t wanted (Some s) = (done : Result Act Status) → to_set (array_elements t) wanted done ≡ Err s
+TellsSet t wanted None = IsArray t × ((done : Result Act Status) → to_set (array_elements t) wanted done ≡ done)
+
+-- ---- counters
+
+-- a counter's number in place of the one at this place in the list, or why it can't count
+abbrev pub TellsCounter : List ℕ → List ℕ → List Node → ℕ → ℕ → ℤ → Result Plan Refused → Type 0
+TellsCounter bytes value nodes index followed delta =
+    Told
+    (λ p. (d : Document) (trail : List ℕ) (t : Tree) → Stood bytes nodes d trail t index → followed ≡ length trail
+    → (a : Act) × (counted trail delta (number_of t) ≡ Ok a) × Plans bytes value d a.trail a.change p × (a.number ≡ p.number))
+    (λ s. (d : Document) (trail : List ℕ) (t : Tree) → Stood bytes nodes d trail t index → counted trail delta (number_of t) ≡ Err s)
+
+-- ---- what is made where parts name nothing
+
+-- a new member of what the front of the path leads to, or why there can be none; `one` where the last part alone may be absent
+abbrev pub MakesMember : Bool → Bool → List ℕ → List ℕ → List Node → List Part → ℕ → Content → Result Plan Refused → Type 0
+MakesMember one several bytes value nodes parts followed c r =
+    (d : Document) (trail : List ℕ) (t v : Tree) (absent : List Part) → Misses bytes nodes parts d followed → Follows parts d.tree (missing trail t absent) → IsContent value c v
+    → Told
+    (λ p. (change : Change) × (make (several || (one && length absent == 1)) trail absent v ≡ act trail change) × Plans bytes value d trail change p × (p.number ≡ c.number))
+    (λ s. make (several || (one && length absent == 1)) trail absent v ≡ Err s) r
+
+-- whether parts are one index
+abbrev pub TellsIndex : List Part → Option ℕ → Type 0
+TellsIndex parts (Some n) = parts ≡ At n ∷ []
+TellsIndex parts None = (n : ℕ) → parts ≡ At n ∷ [] → ⊥

@@ -16,7 +16,9 @@
 //! | 00c0 | a name or an index of nothing that is there |
 #![tactic(auto)]
 
+mod deciding;
 mod kinds;
+mod numbers;
 mod parents;
 mod plan;
 mod places;

@@ -84,7 +84,7 @@ pub fn has_text(text: &[u8], nodes: &[Node], from: usize, count: u32, wanted: &[
 }
 
 /// The bytes from one place to another.
-fn cut(bytes: &[u8], from: usize, to: usize) -> &[u8]
+pub fn cut(bytes: &[u8], from: usize, to: usize) -> &[u8]
     requires { (from ≤ to) × (to ≤ length bytes.now) }
     ensures { result.now ≡ take (to - from) (drop from bytes.now) }
 {
