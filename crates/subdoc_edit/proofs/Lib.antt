@@ -6,3 +6,5 @@ pub mod Splices
 pub mod Placed
 pub mod Rest
 pub mod Plans
+pub mod Trails
+pub mod Decisions

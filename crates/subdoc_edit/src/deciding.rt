@@ -1,6 +1,6 @@
 //! What an edit does where its path leads.
 
-ghost use Rattle.std.specs.Prelude.{◌≡◌, ℕ, ◌<◌, ◌≤◌, true, length, Ok};
+ghost use Rattle.std.specs.Prelude.{◌≡◌, ℕ, ◌<◌, ◌≤◌, ◌||◌, ◌&&◌, ◌==◌, true, length, Ok};
 ghost use Rattle.json_model.specs.declared.TheConstants.{MOST_DEEP as most_deep};
 ghost use Rattle.json_model.specs.declared.asked.Edit.TheVariants as edits;
 ghost use Rattle.json_model.specs.Order.{takes, ends_in_index};
@@ -76,7 +76,10 @@ fn is_array(text: &[u8], nodes: &[Node], at: usize) -> bool
     requires { IsStanding text.now nodes.now at }
     ensures { (place : ℕ) (key : Span) (t : Tree) → Stands text.now nodes.now place at key t → Fits t → TellsArray t result }
 {
-    node_at(text, nodes, at).kind == Kind::Array
+    match node_at(text, nodes, at).kind {
+        Kind::Array => true,
+        _ => false,
+    }
 }
 
 /// Elements at the end of an array.
@@ -199,7 +202,7 @@ fn count(
     requires few { length parts.now ≤ PARTS_LIMIT }
     ensures { FoundDecides edits.Counter text.now value.now nodes.now parts.now at given result }
 {
-    counter_at(alloc, text, nodes, at, parts.len(), value, given.delta)
+    counter_at(alloc, text, nodes, at, parts.len(), value, given)
 }
 
 /// What is done where the path leads to the value at `at`.
@@ -235,6 +238,13 @@ fn at_value(
 
 // ---- where parts of the path name nothing
 
+/// Whether so many parts may be absent: several where `several` says so, one where `one` does.
+fn may_make(one: bool, several: bool, absent: usize) -> bool
+    ensures { result ≡ (several || (one && absent == 1)) }
+{
+    several || (one && absent == 1)
+}
+
 /// A new member of what the first parts lead to, where the part number `followed` names nothing:
 /// several parts may be absent where `several` says so, the last one alone where `one` does.
 fn make(
@@ -253,7 +263,7 @@ fn make(
     ensures { MakesMember one several text.now value.now spans.now parts.now followed content result }
 {
     let (front, absent) = parts.split_at(followed);
-    if !(several || (one && absent.len() == 1)) {
+    if !may_make(one, several, absent.len()) {
         return Err(Refused::Status(Status::PATH_ENOENT));
     }
     let around = match around_of(alloc, absent)? {

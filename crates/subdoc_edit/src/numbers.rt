@@ -9,6 +9,7 @@ ghost use Rattle.subdoc_edit.specs.Numbers.{TellsWhole, IsNumberPlan};
 ghost use Rattle.subdoc_edit.specs.Planning.{TellsCounter};
 
 use crate::plan::Plan;
+use crate::values::Given;
 use crate::walking::{cut, node_at};
 use doc_model::{Refused, Status};
 use json_model::{Kind, PARTS_LIMIT};
@@ -56,7 +57,7 @@ fn whole_of(bytes: &[u8]) -> Whole
     }
 }
 
-/// The number at `at`, to which so many parts of a path lead, counted up by `delta`.
+/// The number at `at`, to which so many parts of a path lead, counted up by the delta that was given.
 pub fn counter_at(
     alloc: Global,
     text: &[u8],
@@ -64,11 +65,11 @@ pub fn counter_at(
     at: usize,
     followed: usize,
     value: &[u8],
-    delta: i64,
+    given: Given,
 ) -> Result<Plan, Refused>
     requires stands { IsStanding text.now nodes.now at }
     requires few { followed ≤ PARTS_LIMIT }
-    ensures { TellsCounter text.now value.now nodes.now at followed delta result }
+    ensures { TellsCounter text.now value.now nodes.now at followed given.delta result }
 {
     let node = node_at(text, nodes, at);
     if node.kind != Kind::Number {
@@ -79,7 +80,7 @@ pub fn counter_at(
         Whole::Large => return Err(Refused::Status(Status::NUM_ERANGE)),
         Whole::Not => return Err(Refused::Status(Status::PATH_MISMATCH)),
     };
-    match old.checked_add(delta) {
+    match old.checked_add(given.delta) {
         Some(number) => Ok(number_plan(alloc, node, followed, number)?),
         None => Err(Refused::Status(Status::VALUE_CANT_INSERT)),
     }
