@@ -8,3 +8,4 @@ pub mod Rest
 pub mod Plans
 pub mod Trails
 pub mod Decisions
+pub mod Gaps
