@@ -7,3 +7,4 @@ pub mod Parts
 pub mod Splicing
 pub mod Numbers
 pub mod Planning
+pub mod Editing

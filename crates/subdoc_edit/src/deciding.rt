@@ -4,12 +4,12 @@ ghost use Rattle.std.specs.Prelude.{◌≡◌, ℕ, ◌<◌, ◌≤◌, ◌||◌
 ghost use Rattle.json_model.specs.declared.TheConstants.{MOST_DEEP as most_deep};
 ghost use Rattle.json_model.specs.declared.asked.Edit.TheVariants as edits;
 ghost use Rattle.json_model.specs.Order.{takes, ends_in_index};
-ghost use Rattle.json_model.specs.Spelled.{Tree, Fits};
+ghost use Rattle.json_model.specs.Spelled.{Tree, Fits, Document, IsText};
 ghost use Rattle.json_spell.specs.declared.node.Span.{Span};
 ghost use Rattle.json_spell.specs.Places.{Spans as AreSpans};
 ghost use Rattle.subdoc_path.specs.Standing.{Stands, IsStanding};
 ghost use Rattle.subdoc_edit.specs.Given.{IsCutOut, IsGiven};
-ghost use Rattle.subdoc_edit.specs.Planning.{FoundDecides, MissedDecides, IsFound, IsMissed, TellsArray, TellsSet, MakesMember, TellsIndex};
+ghost use Rattle.subdoc_edit.specs.Planning.{FoundDecides, MissedDecides, IsFound, IsMissed, TellsArray, TellsSet, MakesMember, TellsIndex, DecidesGiven};
 
 use crate::numbers::counter_at;
 use crate::parents::around_of;
@@ -427,5 +427,31 @@ fn at_gap(
         Edit::ArrayInsert => insert_last(alloc, several, text, spans, parts, followed, value, given),
         Edit::ArrayAddUnique => make_array(alloc, several, text, spans, parts, followed, value, given),
         Edit::Counter => make_counter(alloc, several, text, spans, parts, followed, value, given),
+    }
+}
+
+/// What an edit is to write, or why nothing is to be written.
+pub fn decide(
+    alloc: Global,
+    edit: Edit,
+    several: bool,
+    text: &[u8],
+    spans: &Spans,
+    parts: &[Part],
+    value: &[u8],
+    given: Given,
+) -> Result<Plan, Refused>
+    requires values { AreSpans text.now spans.now }
+    requires few { length parts.now ≤ PARTS_LIMIT }
+    requires form { takes edit parts.now ≡ true }
+    requires read { IsGiven edit value.now given }
+    ensures { (d : Document) → IsText most_deep d text.now → DecidesGiven edit several text.now value.now parts.now given d result }
+{
+    match find_parts(text, spans, parts) {
+        Found::At(at) => at_value(alloc, edit, text, spans, parts, at, value, given),
+        Found::Missing(followed) => {
+            at_gap(alloc, edit, several, text, spans, parts, followed, value, given)
+        }
+        Found::Mismatch(_) => Err(Refused::Status(Status::PATH_MISMATCH)),
     }
 }

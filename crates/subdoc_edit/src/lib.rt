@@ -17,6 +17,7 @@
 #![tactic(auto)]
 
 mod deciding;
+mod editing;
 mod kinds;
 mod numbers;
 mod parents;

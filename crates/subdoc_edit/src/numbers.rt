@@ -28,15 +28,33 @@ pub enum Whole {
     Not,
 }
 
-/// Whether all bytes behind what may be a minus are digits.
-fn is_whole(bytes: &[u8]) -> bool
-    ensures { result ≡ list_all is_digit (magnitude bytes.now) }
+/// Whether a byte is a decimal digit.
+fn is_digit(byte: u8) -> bool
+    ensures { result ≡ is_digit byte }
 {
-    let digits = match bytes {
+    byte > 0x2f && byte < 0x3a
+}
+
+/// The digits behind what may be a minus.
+fn magnitude(bytes: &[u8]) -> &[u8]
+    ensures { result.now ≡ magnitude bytes.now }
+{
+    match bytes {
         [b'-', digits @ ..] => digits,
         _ => bytes,
-    };
-    digits.iter().all(|byte| byte.is_ascii_digit())
+    }
+}
+
+/// Whether all bytes are digits.
+fn are_digits(bytes: &[u8]) -> bool
+    ensures { result ≡ list_all is_digit bytes.now }
+{
+    for byte in bytes {
+        if !is_digit(*byte) {
+            return false;
+        }
+    }
+    true
 }
 
 /// The whole number that a JSON number is.
@@ -44,7 +62,7 @@ fn whole_of(bytes: &[u8]) -> Whole
     requires { IsNumber bytes.now }
     ensures { TellsWhole bytes.now result }
 {
-    if !is_whole(bytes) {
+    if !are_digits(magnitude(bytes)) {
         return Whole::Not;
     }
     let text = match str::from_utf8(bytes) {
