@@ -50,11 +50,11 @@ exists_is bytes nodes at index key t n h s =
     let c = slice_of bytes nodes at index key t n h s in
     (record { ordered = omega arith; within = omega (arith, c.ordered, c.within) }, ap (λ (l : List ℕ). Ok l) (sym (none_cut n.from bytes)))
 
-shape_holds : (shape : Shape) → holds_others (kind_of shape) ≡ true
+pub shape_holds : (shape : Shape) → holds_others (kind_of shape) ≡ true
 shape_holds shapes.Object = refl
 shape_holds shapes.Array = refl
 
-leaf_holds : (kind : Kind) (s : List ℕ) → IsLeaf kind s → holds_others kind ≡ false
+pub leaf_holds : (kind : Kind) (s : List ℕ) → IsLeaf kind s → holds_others kind ≡ false
 leaf_holds kinds.Object s h = absurd h
 leaf_holds kinds.Array s h = absurd h
 leaf_holds kinds.Text s h = refl

@@ -16,13 +16,19 @@
 //! | 00c0 | a name or an index of nothing that is there |
 #![tactic(auto)]
 
+mod deciding;
 mod editing;
 mod kinds;
+mod numbers;
+mod parents;
+mod plan;
+mod places;
 mod looking;
 mod reading;
+mod values;
+mod walking;
 
-pub use editing::{Edited, edit, edit_of};
-pub use looking::{Piece, look, lookup_of, one_answer};
+pub use looking::{Piece, look, one_answer};
 
 #[cfg(test)]
 mod tests;

@@ -1,0 +1,127 @@
+//! Whole numbers, and counters.
+
+ghost use Rattle.std.specs.Prelude.{◌≡◌, ◌≤◌, IfOk};
+ghost use Rattle.std.specs.List.{list_all};
+ghost use Rattle.json_model.specs.Grammar.{IsNumber};
+ghost use Rattle.json_model.specs.Edit.{is_digit, magnitude};
+ghost use Rattle.subdoc_path.specs.Standing.{IsStanding};
+ghost use Rattle.subdoc_edit.specs.Numbers.{TellsWhole, IsNumberPlan};
+ghost use Rattle.subdoc_edit.specs.Planning.{TellsCounter};
+
+use crate::plan::Plan;
+use crate::values::Given;
+use crate::walking::{cut, node_at};
+use doc_model::{Refused, Status};
+use json_model::{Kind, PARTS_LIMIT};
+use json_spell::Node;
+use kv_edge::{Bytes, NoMemory};
+use std::alloc::Global;
+
+/// The whole number that a JSON number is.
+#[derive(Clone, Copy, Debug, PartialEq, Eq)]
+pub enum Whole {
+    /// This one.
+    Is(i64),
+    /// One beyond 64 bits with a sign.
+    Large,
+    /// None: it is spelt with a point or an e.
+    Not,
+}
+
+/// Whether a byte is a decimal digit.
+fn is_digit(byte: u8) -> bool
+    ensures { result ≡ is_digit byte }
+{
+    byte > 0x2f && byte < 0x3a
+}
+
+/// The digits behind what may be a minus.
+fn magnitude(bytes: &[u8]) -> &[u8]
+    ensures { result.now ≡ magnitude bytes.now }
+{
+    match bytes {
+        [b'-', digits @ ..] => digits,
+        _ => bytes,
+    }
+}
+
+/// Whether all bytes are digits.
+fn are_digits(bytes: &[u8]) -> bool
+    ensures { result ≡ list_all is_digit bytes.now }
+{
+    for byte in bytes {
+        if !is_digit(*byte) {
+            return false;
+        }
+    }
+    true
+}
+
+/// The whole number that a JSON number is.
+fn whole_of(bytes: &[u8]) -> Whole
+    requires { IsNumber bytes.now }
+    ensures { TellsWhole bytes.now result }
+{
+    if !are_digits(magnitude(bytes)) {
+        return Whole::Not;
+    }
+    let text = match str::from_utf8(bytes) {
+        Ok(text) => text,
+        Err(_) => return Whole::Not,
+    };
+    match text.parse::<i64>() {
+        Ok(number) => Whole::Is(number),
+        Err(_) => Whole::Large,
+    }
+}
+
+/// The number at `at`, to which so many parts of a path lead, counted up by the delta that was given.
+pub fn counter_at(
+    alloc: Global,
+    text: &[u8],
+    nodes: &[Node],
+    at: usize,
+    followed: usize,
+    value: &[u8],
+    given: Given,
+) -> Result<Plan, Refused>
+    requires stands { IsStanding text.now nodes.now at }
+    requires few { followed ≤ PARTS_LIMIT }
+    ensures { TellsCounter text.now value.now nodes.now at followed given.delta result }
+{
+    let node = node_at(text, nodes, at);
+    if node.kind != Kind::Number {
+        return Err(Refused::Status(Status::PATH_MISMATCH));
+    }
+    let old = match whole_of(cut(text, node.from, node.to)) {
+        Whole::Is(number) => number,
+        Whole::Large => return Err(Refused::Status(Status::NUM_ERANGE)),
+        Whole::Not => return Err(Refused::Status(Status::PATH_MISMATCH)),
+    };
+    match old.checked_add(given.delta) {
+        Some(number) => Ok(number_plan(alloc, node, followed, number)?),
+        None => Err(Refused::Status(Status::VALUE_CANT_INSERT)),
+    }
+}
+
+/// A number in place of a value.
+fn number_plan(
+    alloc: Global,
+    node: Node,
+    followed: usize,
+    number: i64,
+) -> Result<Plan, NoMemory>
+    ensures { IfOk result (λ p. IsNumberPlan node followed number p) }
+{
+    let digits = format!(in alloc; "{number}")?;
+    Ok(Plan {
+        from: node.from,
+        to: node.to,
+        before: Bytes::from_slice(alloc, digits.as_bytes())?,
+        value_from: 0,
+        value_to: 0,
+        behind: Bytes::new(alloc),
+        depth: followed,
+        number: Some(number),
+    })
+}
