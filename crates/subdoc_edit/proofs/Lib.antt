@@ -9,3 +9,12 @@ pub mod Plans
 pub mod Trails
 pub mod Decisions
 pub mod Gaps
+pub mod GivenDepths
+pub mod GivenTrees
+pub mod GivenParts
+pub mod GivenDelta
+pub mod GivenEdits
+pub mod ParentsNames
+pub mod ParentsKeys
+pub mod ParentsFit
+pub mod ParentsPaths

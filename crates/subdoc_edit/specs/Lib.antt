@@ -2,6 +2,7 @@ pub mod Telling
 pub mod Kinds
 pub mod Looking
 pub mod Given
+pub mod GivenDepths
 pub mod Parents
 pub mod Parts
 pub mod Splicing

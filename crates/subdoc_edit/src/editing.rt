@@ -29,7 +29,7 @@ pub struct Edited {
 }
 
 /// The edit that an opcode stands for.
-fn edit_of(opcode: u8) -> Option<Edit>
+pub fn edit_of(opcode: u8) -> Option<Edit>
     ensures { result ≡ edit_of opcode }
 {
     match opcode {

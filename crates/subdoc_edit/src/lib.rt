@@ -17,6 +17,7 @@
 #![tactic(auto)]
 
 mod deciding;
+mod depths;
 mod editing;
 mod kinds;
 mod numbers;
@@ -28,7 +29,12 @@ mod reading;
 mod values;
 mod walking;
 
-pub use looking::{Piece, look, one_answer};
+pub use editing::{Edited, edit, edit_of};
+pub use looking::{Piece, look, lookup_of, one_answer};
 
+#[cfg(test)]
+mod edit_tests;
+#[cfg(test)]
+mod given_tests;
 #[cfg(test)]
 mod tests;

@@ -30,7 +30,7 @@ pub struct Piece {
 }
 
 /// The look-up that an opcode stands for.
-fn lookup_of(opcode: u8) -> Option<Lookup>
+pub fn lookup_of(opcode: u8) -> Option<Lookup>
     ensures { result ≡ lookup_of opcode }
 {
     match opcode {
