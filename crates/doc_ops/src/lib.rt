@@ -18,7 +18,6 @@ pub use doc_step::{Change, Effect};
 pub use planning::plan;
 
 #[cfg(test)]
-mod tests;
-
-#[cfg(test)]
 mod part_tests;
+#[cfg(test)]
+mod tests;

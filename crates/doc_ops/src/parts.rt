@@ -172,7 +172,14 @@ fn edit_text(alloc: Global, spec: &Spec, several: bool, text: &[u8]) -> Result<E
     ensures { EditsText spec.now several text.now result }
 {
     let path = spec.path.as_slice();
-    edit(alloc, spec.opcode, path_flags(several), text, path, spec.value.as_slice())
+    edit(
+        alloc,
+        spec.opcode,
+        path_flags(several),
+        text,
+        path,
+        spec.value.as_slice(),
+    )
 }
 
 /// The flags of a path of which several parts may be absent, or one.

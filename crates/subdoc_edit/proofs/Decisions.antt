@@ -227,9 +227,9 @@ outer_of bytes nodes parts ps p d index e l =
     let r = leads_at parts d.tree index l.leads in
     let i = inner p ps d.tree r.trail r.tree (subst (λ (q : List Part). Follows q d.tree (reached r.trail r.tree)) e r.follows) in
     let front_is : take (length parts - 1) parts ≡ fronts (p ∷ ps) =
-        let one : length parts ≡ suc (length ps) = ap (λ (q : List Part). length q) e in
-        let less : length parts - 1 ≡ length ps = omega (arith, one) in
-        ap (λ (n : ℕ). take n parts) less ∙ ap (λ (q : List Part). take (length ps) q) e ∙ fronts_take (p ∷ ps) (length ps) refl
+    let one : length parts ≡ suc (length ps) = ap (λ (q : List Part). length q) e in
+    let less : length parts - 1 ≡ length ps = omega (arith, one) in
+    ap (λ (n : ℕ). take n parts) less ∙ ap (λ (q : List Part). take (length ps) q) e ∙ fronts_take (p ∷ ps) (length ps) refl
     in
     record {
       trail = r.trail;
@@ -337,10 +337,13 @@ set_has t trees wanted e bare has done =
     ∙ ap (λ (b : Bool). if b then Err status.PATH_EEXISTS else done) has
 
 pub set_free : (t : Tree) (trees : List Tree) (wanted : List ℕ) → IsArray t → array_elements t ≡ Some trees → list_all is_leaf trees ≡ true → list_any (λ u. pointwise nat_eq (text u) wanted) trees ≡ false → TellsSet t wanted None
-set_free t trees wanted array e bare has = (array, λ done.
-    ap (λ (x : Option (List Tree)). to_set x wanted done) e
-    ∙ ap (λ (b : Bool). if b then (if list_any (λ u. pointwise nat_eq (text u) wanted) trees then Err status.PATH_EEXISTS else done) else Err status.PATH_MISMATCH) bare
-    ∙ ap (λ (b : Bool). if b then Err status.PATH_EEXISTS else done) has)
+set_free t trees wanted array e bare has = (
+  array,
+  λ done.
+      ap (λ (x : Option (List Tree)). to_set x wanted done) e
+      ∙ ap (λ (b : Bool). if b then (if list_any (λ u. pointwise nat_eq (text u) wanted) trees then Err status.PATH_EEXISTS else done) else Err status.PATH_MISMATCH) bare
+      ∙ ap (λ (b : Bool). if b then Err status.PATH_EEXISTS else done) has,
+)
 
 pub set_refused : (several : Bool) (bytes value wanted : List ℕ) (nodes : List Node) (parts : List Part) (d : Document) (index : ℕ) (g : Given) (s : Status) (asked : Asked) → wanted ≡ given_bytes value g
     → ((place : ℕ) (key : Span) (t : Tree) → Stands bytes nodes place index key t → Fits t → TellsSet t wanted (Some s))

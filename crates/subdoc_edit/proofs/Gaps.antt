@@ -140,12 +140,11 @@ pub makes_one : (one several may : Bool) (bytes value : List ℕ) (nodes : List 
 makes_one one several may bytes value nodes parts front behind followed index c a p front_is e is free (name, names, named, round) leads plans number d trail t v absent m f w =
     let same : behind ≡ absent = absent_same parts behind d trail t absent bytes nodes followed m f e in
     let l = lacking bytes nodes parts front d trail t absent followed index m f front_is (leads d m.is) in
-    let named_is : names_of absent ≡ Some (name ∷ names) = ap names_of (sym same) ∙ named in
-    (
+    let named_is : names_of absent ≡ Some (name ∷ names) = ap names_of (sym same) ∙ named in (
       push (member name (nested names v)),
       parents (several || (one && length absent == 1)) trail absent v (ap (λ (ps : List Part). several || (one && length ps == 1)) (sym same) ∙ sym is ∙ free) ∙ ap (λ (o : Option (List (List ℕ))). made trail v o) named_is,
       plans d trail t v name names l.stood (omega (arith, l.lacks.total, names_long absent (name ∷ names) named_is)) l.holds w round,
-      number
+      number,
     )
 
 -- ---- decisions

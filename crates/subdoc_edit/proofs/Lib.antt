@@ -9,6 +9,9 @@ pub mod Plans
 pub mod Trails
 pub mod Decisions
 pub mod Gaps
+pub mod Edits
+pub mod Wholes
+pub mod Counters
 pub mod GivenDepths
 pub mod GivenTrees
 pub mod GivenParts

@@ -1,6 +1,8 @@
 -- Plans are those of their changes.
 use Rattle.std.proofs.Common.{◌≡◌, ℕ, zero, suc, ◌+◌, ◌-◌, ◌<◌, ◌≤◌, max, List, [], ◌∷◌, ◌++◌, length, take, drop, get_or, Bool, true, false, Option, Some, None, ◌⊎◌, inl, inr, refl, sym, ap, subst, ◌∙◌, arith, append_assoc, ℤ}
 use Rattle.json_model.specs.declared.TheConstants.{MOST_DEEP}
+use Rattle.std.specs.Fmt.{signed_decimal}
+use Rattle.json_model.specs.declared.kinds.Kind.TheVariants as kinds
 use Rattle.json_model.specs.declared.kinds.Shape.{Shape}
 use Rattle.json_model.specs.declared.kinds.Shape.TheVariants as shapes
 use Rattle.json_model.specs.Spelled.{Head, Tree, leaf, empty, group, Parts, last, more, text, parts_text, depth, parts_depth, count, Fits, Document, IsText}
@@ -18,6 +20,7 @@ use Rattle.subdoc_edit.specs.declared.places.Gap.{Gap}
 use Rattle.subdoc_edit.specs.declared.plan.Plan.{Plan}
 use Rattle.subdoc_edit.specs.declared.plan.Content.{Content}
 use Rattle.subdoc_edit.specs.Splicing.{Spliced, IsTrimmed, Holds, IsArray, comma_if, EndsAt, BeginsAt, CutsAt}
+use Rattle.subdoc_edit.specs.Numbers.{IsNumberPlan}
 use Rattle.subdoc_edit.specs.Planning.{plan_bytes, changed_text, Writes, Plans, Stood, IsNew, IsWritten, IsContent, bracket_before, bracket_behind}
 use Rattle.subdoc_edit.proofs.Pieces.{says}
 use Rattle.subdoc_edit.proofs.Splices.{spliced_as}
@@ -129,6 +132,35 @@ put_plan bytes value before behind nodes d trail t v index followed c n e f b is
     (λ at key s fits less. absurd (omega (arith, less, w.1)))
     (λ less. record { forth = λ h. absurd (omega (arith, h, w.0)); back = λ h. absurd (omega (arith, h, w.1)) })
 
+-- a number of its own in place of another value
+pub number_plan : (bytes value : List ℕ) (nodes : List Node) (d : Document) (trail : List ℕ) (t : Tree) (index followed : ℕ) (n : Node) (number : ℤ) (p : Plan) → n ≡ get_or nodes index n → IsNumberPlan n followed number p
+    → Stood bytes nodes d trail t index → followed ≡ length trail → Plans bytes value d trail (put (leaf kinds.Number (signed_decimal number))) p
+number_plan bytes value nodes d trail t index followed n number p is same st long =
+    let new : List ℕ = signed_decimal number in
+    let these : plan_bytes value p ≡ new =
+    ap (λ (l : List ℕ). l ++ (take (p.value_to - p.value_from) (drop p.value_from value) ++ p.behind)) same.before_is
+    ∙ ap (λ (k : ℕ). new ++ (take (k - p.value_from) (drop p.value_from value) ++ p.behind)) same.value_to_is
+    ∙ ap (λ (k : ℕ). new ++ (take (0 - k) (drop k value) ++ p.behind)) same.value_from_is
+    ∙ ap (λ (l : List ℕ). new ++ l) same.behind_is ∙ no_more new
+    in
+    plan_at bytes value nodes d trail t index (put (leaf kinds.Number new)) p st
+    (λ at key s fits less.
+    let x = says bytes nodes at index key t n s is in
+    record {
+      spliced = record {
+        front = s.front;
+        middle = text t;
+        back = s.back;
+        was = s.spelled;
+        is = ap (λ (l : List ℕ). s.front ++ (l ++ s.back)) (sym these);
+        from_is = same.from_is ∙ x.from ∙ sym s.at_is;
+        to_is = omega (arith, same.to_is, x.to, s.at_is);
+      };
+      ordered = omega (arith, same.value_from_is);
+      within = omega (arith, same.value_to_is);
+    })
+    (λ less. record { forth = λ h. omega (arith, h, long, same.depth_is); back = λ h. omega (arith, h, long, same.depth_is) })
+
 -- ---- elements
 
 push_bytes : (g : Given) (value before behind comma : List ℕ) (new : Parts) → IsNew value g new → before ≡ comma → behind ≡ [] → before ++ (cut value g.from g.to ++ behind) ≡ comma ++ parts_text new
@@ -220,11 +252,11 @@ member_plan bytes value before behind nodes d trail t v name names index total a
     let new_text : List ℕ = s.front ++ (text (with_pushed new t) ++ s.back) in
     let middle : List ℕ = cut value c.from c.to in
     let same : before ++ (middle ++ behind) ≡ comma_if gap.comma ++ parts_text new =
-        ap (λ (x : List ℕ). x ++ (middle ++ behind)) e
-        ∙ ap (λ (x : List ℕ). (comma_if gap.comma ++ (a.before ++ bracket_before c.listed)) ++ (middle ++ x)) f
-        ∙ member_pieces (comma_if gap.comma) a.before (bracket_before c.listed) middle (bracket_behind c.listed) a.behind
-        ∙ ap (λ (x : List ℕ). comma_if gap.comma ++ (a.before ++ (x ++ a.behind))) (sym w.text_is)
-        ∙ ap (λ (x : List ℕ). comma_if gap.comma ++ x) (sym (round v))
+    ap (λ (x : List ℕ). x ++ (middle ++ behind)) e
+    ∙ ap (λ (x : List ℕ). (comma_if gap.comma ++ (a.before ++ bracket_before c.listed)) ++ (middle ++ x)) f
+    ∙ member_pieces (comma_if gap.comma) a.before (bracket_before c.listed) middle (bracket_behind c.listed) a.behind
+    ∙ ap (λ (x : List ℕ). comma_if gap.comma ++ (a.before ++ (x ++ a.behind))) (sym w.text_is)
+    ∙ ap (λ (x : List ℕ). comma_if gap.comma ++ x) (sym (round v))
     in
     record {
       spliced = spliced_as bytes new_text (comma_if gap.comma ++ parts_text new) bytes new_text (before ++ (middle ++ behind)) gap.at gap.at (ends at key t s fits holds new (record { led_is = refl; ended_is = refl })) refl refl same;

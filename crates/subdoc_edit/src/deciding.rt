@@ -275,7 +275,16 @@ fn make(
         Found::Missing(_) => return Err(Refused::NoMemory),
         Found::Mismatch(_) => return Err(Refused::NoMemory),
     };
-    let plan = member_at(alloc, text, nodes(spans), at, parts.len(), &around, value, content)?;
+    let plan = member_at(
+        alloc,
+        text,
+        nodes(spans),
+        at,
+        parts.len(),
+        &around,
+        value,
+        content,
+    )?;
     Ok(plan)
 }
 
@@ -344,7 +353,9 @@ fn make_value(
         depth: given.depth,
         number: None,
     };
-    make(alloc, true, several, text, spans, parts, followed, value, content)
+    make(
+        alloc, true, several, text, spans, parts, followed, value, content,
+    )
 }
 
 /// An array of the given elements under new names.
@@ -372,7 +383,9 @@ fn make_array(
         depth: given.depth + 1,
         number: None,
     };
-    make(alloc, false, several, text, spans, parts, followed, value, content)
+    make(
+        alloc, false, several, text, spans, parts, followed, value, content,
+    )
 }
 
 /// A counter that begins at its delta, under new names.
@@ -397,7 +410,9 @@ fn make_counter(
         depth: 0,
         number: Some(given.delta),
     };
-    make(alloc, true, several, text, spans, parts, followed, value, content)
+    make(
+        alloc, true, several, text, spans, parts, followed, value, content,
+    )
 }
 
 /// What is done where the part number `followed` of the path names nothing.
@@ -422,10 +437,18 @@ fn at_gap(
         Edit::DictUpsert => make_value(alloc, several, text, spans, parts, followed, value, given),
         Edit::Delete => Err(Refused::Status(Status::PATH_ENOENT)),
         Edit::Replace => Err(Refused::Status(Status::PATH_ENOENT)),
-        Edit::ArrayPushLast => make_array(alloc, several, text, spans, parts, followed, value, given),
-        Edit::ArrayPushFirst => make_array(alloc, several, text, spans, parts, followed, value, given),
-        Edit::ArrayInsert => insert_last(alloc, several, text, spans, parts, followed, value, given),
-        Edit::ArrayAddUnique => make_array(alloc, several, text, spans, parts, followed, value, given),
+        Edit::ArrayPushLast => make_array(
+            alloc, several, text, spans, parts, followed, value, given,
+        ),
+        Edit::ArrayPushFirst => make_array(
+            alloc, several, text, spans, parts, followed, value, given,
+        ),
+        Edit::ArrayInsert => insert_last(
+            alloc, several, text, spans, parts, followed, value, given,
+        ),
+        Edit::ArrayAddUnique => make_array(
+            alloc, several, text, spans, parts, followed, value, given,
+        ),
         Edit::Counter => make_counter(alloc, several, text, spans, parts, followed, value, given),
     }
 }
@@ -450,7 +473,9 @@ pub fn decide(
     match find_parts(text, spans, parts) {
         Found::At(at) => at_value(alloc, edit, text, spans, parts, at, value, given),
         Found::Missing(followed) => {
-            at_gap(alloc, edit, several, text, spans, parts, followed, value, given)
+            at_gap(
+                alloc, edit, several, text, spans, parts, followed, value, given,
+            )
         }
         Found::Mismatch(_) => Err(Refused::Status(Status::PATH_MISMATCH)),
     }

@@ -161,7 +161,16 @@ fn edit_at(
         return Err(Refused::Status(Status::PATH_EINVAL));
     }
     let given = given_of(alloc, edit, value)?;
-    let plan = decide(alloc, edit, several, text, &spans, path.parts(), value, given)?;
+    let plan = decide(
+        alloc,
+        edit,
+        several,
+        text,
+        &spans,
+        path.parts(),
+        value,
+        given,
+    )?;
     finish(alloc, text, value, plan)
 }
 

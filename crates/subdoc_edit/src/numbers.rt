@@ -105,12 +105,7 @@ pub fn counter_at(
 }
 
 /// A number in place of a value.
-fn number_plan(
-    alloc: Global,
-    node: Node,
-    followed: usize,
-    number: i64,
-) -> Result<Plan, NoMemory>
+fn number_plan(alloc: Global, node: Node, followed: usize, number: i64) -> Result<Plan, NoMemory>
     ensures { IfOk result (λ p. IsNumberPlan node followed number p) }
 {
     let digits = format!(in alloc; "{number}")?;
