@@ -46,8 +46,8 @@ pub fn request_numbers()
     ensures usual_timeout { USUAL_TIMEOUT ≡ 30000 }
 {}
 
-/// The flags of a path and those of a document are these bits, and the extras of a look-up and of an edit have one of
-/// these numbers of bytes.
+/// The flags of a path and those of a document are these bits, and the extras of a look-up and of an
+/// edit have one of these numbers of bytes.
 pub fn part_numbers()
     ensures makes_parents { MAKES_PARENTS ≡ 1 }
     ensures is_xattr { IS_XATTR ≡ 4 }

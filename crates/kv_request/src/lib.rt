@@ -32,27 +32,30 @@
 //! | b9 | SetManifest | none | no | yes | | empty |
 //! | ba | GetManifest | none | no | no | | value: the manifest |
 //! | bb, bc | CollectionId, ScopeId | none | a path | or a path | | extras: manifest's uid u64, id u32 |
-//! | c5, c6, d2 | Get, Exists, GetCount at a path | path length u16, path flags u8, perhaps the document's flags u8 | yes | the path | | see `subdoc_step` |
-//! | c7, c8, c9, ca, cb, cc, cd, ce, cf | DictAdd, DictUpsert, Delete, Replace, ArrayPushLast, ArrayPushFirst, ArrayInsert, ArrayAddUnique, Counter at a path | path length u16, path flags u8, perhaps the expiry u32, perhaps the document's flags u8 | yes | the path, and behind it the edit's value | yes | token, CAS; of a Counter the number |
+//! | c5, c6, d2 | Get, Exists, GetCount at a path | path length u16, path flags u8, perhaps the document's flags u8 | yes | the path | | value: the text at the path, or how many there are; CAS |
+//! | c7, c8, c9, ca, cb, cc, cd, ce, cf | DictAdd, DictUpsert, Delete, Replace, ArrayPushLast, ArrayPushFirst, ArrayInsert, ArrayAddUnique, Counter at a path | path length u16, path flags u8, perhaps the expiry u32, perhaps the document's flags u8 | yes | the path, and behind it the edit's value | yes | token, CAS; value: the number that a Counter comes to |
 //!
 //! A quiet Get or GetK leaves a miss unsent, every other quiet opcode a success.
 //!
 //! # Parts of documents
 //!
-//! Extras of 7 and of 8 bytes have an expiry, those of 4 and of 8 end in the document's flags. The document's flags are
-//! 01, a document is made where none is there, or 02, a document is made and none may be there. The path's flags are 01,
-//! parts of the path that are absent are made, 04, the path leads into the extended attributes, and 10, macros in the
-//! value are expanded. Look-ups and edits are checked in this order, behind all other checks:
+//! Extras of 7 and of 8 bytes have an expiry, those of 4 and of 8 end in the document's flags. These
+//! are 01, a document is made where none is there, and 02, a document is made and none may be there.
+//! The path's flags are 01, parts of the path that are absent are made, 04, the path leads into the
+//! extended attributes, and 10, macros in the value are expanded. Behind all other checks a look-up
+//! and an edit are checked in this order:
 //!
-//! 1. The document's flags are none, or of an edit 01 or 02, and not both, else EINVAL.
+//! 1. The document's flags are none, or those of an edit 01 or 02 and not both, else EINVAL.
 //! 2. The path ends within the value, else EINVAL.
 //! 3. Nothing stands behind the path of a look-up or of a Delete, else EINVAL.
 //! 4. The path has no flags but 01, 04 and 10, else EINVAL.
 //! 5. With the flag 10 there is the flag 04, else XATTR_INVALID_FLAG_COMBO.
 //! 6. There is no flag 10, else XATTR_UNKNOWN_MACRO: no macro is known.
-//! 7. The flag 01 stands on c7, c8, cb, cc, ce or cf alone, else EINVAL.
+//! 7. The flag 01 stands on c7, c8, cb, cc, ce and cf alone, else EINVAL.
 //! 8. The path has a byte, or the opcode is cb, cc, ce or d2 and there is no flag 04, else EINVAL.
-//! 9. There is no flag 04, else NOT_SUPPORTED.
+//! 9. There is no flag 04, else NOT_SUPPORTED: attributes aren't served.
+//!
+//! The size of the value, check 6 above, is that of path and value together.
 //!
 //! # Keys
 //!

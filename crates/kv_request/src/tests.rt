@@ -1,4 +1,4 @@
-use crate::{Body, Features, Mode, Request, read_request};
+use crate::{Body, Features, Mode, read_request};
 use doc_model::{Refused, Status};
 use hex_rows::bytes_of;
 use kv_edge::{Bytes, NoMemory, Seq};
@@ -43,10 +43,15 @@ const REFUSED: (u32, usize) = (0, 1000);
 /// The frame that all of the bytes are.
 fn frame_of(alloc: Global, text: &str) -> Result<Frame, Fail> {
     let bytes = bytes_of(alloc, text)?;
-    match decode(alloc, Side::Requests, &bytes) {
-        Ok(Step::Whole(frame, used)) if used == bytes.len() => Ok(frame),
-        _ => Err("the bytes are no whole frame")?,
+    match decode(alloc, Side::Requests, &bytes)? {
+        Step::Whole(frame, used) => {
+            if used == bytes.len() {
+                return Ok(frame);
+            }
+        }
+        _ => {}
     }
+    Err("the bytes are no whole frame")?
 }
 
 /// A frame with this many bytes 00 as its extras, letters as its key and blanks as its value.
@@ -84,14 +89,6 @@ pub(crate) fn outcome(
         },
         Err(Refused::Status(status)) => Ok((status.code, NO_LEVEL)),
         Err(Refused::NoMemory) => Err(NoMemory),
-    }
-}
-
-/// The request that a frame is.
-fn request_of(alloc: Global, frame: &Frame, features: &Features) -> Result<Request, Fail> {
-    match read_request(alloc, frame, features) {
-        Ok(made) => Ok(made),
-        Err(_) => Err("the frame is refused")?,
     }
 }
 
@@ -207,6 +204,32 @@ fn brings(body: &Body, wanted: &Brought<'_>) -> bool {
         && texts(body) == (wanted.4.as_bytes(), wanted.5.as_bytes())
 }
 
+/// Whether a frame is read as a request with this head that brings this.
+fn is_read(
+    alloc: Global,
+    frame: &Frame,
+    features: &Features,
+    head: Head,
+    wanted: &Brought<'_>,
+) -> bool {
+    let read = read_request(alloc, frame, features);
+    match &read {
+        Ok(made) => {
+            (made.opcode, made.opaque, made.cas, made.vbucket) == head && brings(&made.body, wanted)
+        }
+        Err(_) => false,
+    }
+}
+
+/// A name for what a frame asks for.
+fn asked(alloc: Global, frame: &Frame) -> &'static str {
+    let read = read_request(alloc, frame, &NOTHING);
+    match &read {
+        Ok(made) => kind(&made.body).0,
+        Err(_) => "refused",
+    }
+}
+
 /// Frames with what they are read as, where collections are granted or not.
 const READINGS: [(&str, bool, Head, Brought<'static>); 16] = [
     (
@@ -315,9 +338,7 @@ fn first_misread(
     for (place, row) in rows.iter().enumerate() {
         let features = if row.1 { COLLECTIONS } else { NOTHING };
         let frame = frame_of(alloc, row.0)?;
-        let made = request_of(alloc, &frame, &features)?;
-        let head = (made.opcode, made.opaque, made.cas, made.vbucket);
-        if head != row.2 || !brings(&made.body, &row.3) {
+        if !is_read(alloc, &frame, &features, row.2, &row.3) {
             return Ok(Some(place));
         }
     }
@@ -371,8 +392,7 @@ fn first_other(alloc: Global, rows: &[(u8, usize, usize, &str)]) -> Result<Optio
     for (place, row) in rows.iter().enumerate() {
         let frame = frame_with(alloc, row.0, row.1, row.2, 0)?;
         let longer = frame_with(alloc, row.0, 21, row.2, 0)?;
-        let made = request_of(alloc, &frame, &NOTHING)?;
-        if kind(&made.body).0 != row.3 || outcome(alloc, &longer, &NOTHING)?.0 != EINVAL {
+        if asked(alloc, &frame) != row.3 || outcome(alloc, &longer, &NOTHING)?.0 != EINVAL {
             return Ok(Some(place));
         }
     }
@@ -675,21 +695,19 @@ const KEYS: [(&str, usize, bool, (u32, usize)); 16] = [
     ("", 251, false, REFUSED),
 ];
 
-/// The collection of a Get's key and how many bytes its name has, or REFUSED.
-fn split(alloc: Global, name: Vec<u8>, features: &Features) -> Result<(u32, usize), Fail> {
-    let mut get = frame_with(alloc, 0x00, 0, 0, 0)?;
-    get.key = Bytes::from_vec(name);
-    match read_request(alloc, &get, features) {
+/// The collection of a frame's key and how many bytes its name has, or REFUSED.
+fn split(alloc: Global, frame: &Frame, features: &Features) -> (u32, usize) {
+    let read = read_request(alloc, frame, features);
+    match &read {
         Ok(made) => {
             let (collection, name) = key(&made.body);
-            Ok((collection, name.len()))
+            (collection, name.len())
         }
-        Err(Refused::Status(Status { code: EINVAL })) => Ok(REFUSED),
-        Err(_) => Err("it is refused with another status")?,
+        Err(_) => REFUSED,
     }
 }
 
-/// The place of the first key that is read as another.
+/// The place of the first key of a Get that is read as another.
 fn first_missplit(
     alloc: Global,
     rows: &[(&str, usize, bool, (u32, usize))],
@@ -699,7 +717,10 @@ fn first_missplit(
         let mut name = bytes_of(alloc, row.0)?;
         let letters = vec![in alloc; b'k'; row.1]?;
         name.extend_from_slice(&letters)?;
-        if split(alloc, name, &features)? != row.3 {
+        let mut get = frame_with(alloc, 0x00, 0, 0, 0)?;
+        get.key = Bytes::from_vec(name);
+        let status = if row.3 == REFUSED { EINVAL } else { READ };
+        if split(alloc, &get, &features) != row.3 || outcome(alloc, &get, &features)?.0 != status {
             return Ok(Some(place));
         }
     }

@@ -51,7 +51,8 @@ pub(crate) enum Made {
     },
 }
 
-/// A session's own answer to a request: the reply, the features from then on, and whether the connection ends.
+/// A session's own answer to a request: the reply, the features from then on, and whether the
+/// connection ends.
 #[derive(Drop)]
 struct Own {
     reply: Reply,
@@ -81,7 +82,8 @@ pub(crate) fn read_frame(
     }
 }
 
-/// What a session makes of a request: one that asks nothing of a vbucket is answered, any other is passed on.
+/// What a session makes of a request: one that asks nothing of a vbucket is answered, any other is
+/// passed on.
 fn pass_or_tell(alloc: Global, request: Request, features: Features) -> Result<Made, NoMemory>
     ensures { IfOk result (Makes (made_of features request request.body)) }
 {
