@@ -1,18 +1,17 @@
 -- A counter's number in place of the one there.
-use Rattle.std.proofs.Common.{◌≡◌, ◌≢◌, ℕ, ◌+◌, ◌-◌, ◌^◌, ◌<◌, ◌≤◌, List, [], ◌∷◌, ◌++◌, length, take, drop, get_or, Bool, true, false, Option, None, Some, Result, Ok, Err, refl, sym, ap, subst, ◌∙◌, arith, ℤ, pos, negsuc, ◌+ℤ◌, ◌⊎◌, inl, inr, w64, to_z, of_z}
-use Rattle.std.specs.Prelude.{if◌then◌else◌, int_le, int_lt, ◌&&◌}
+use Rattle.std.proofs.Common.{◌≡◌, ℕ, ◌-◌, ◌^◌, ◌<◌, ◌≤◌, List, length, take, drop, get_or, Bool, true, false, None, Some, Ok, Err, refl, sym, ap, subst, ◌∙◌, arith, ℤ, pos, negsuc, ◌+ℤ◌, ◌⊎◌, inl, inr, w64, to_z, of_z}
+use Rattle.std.specs.Prelude.{if◌then◌else◌}
 use Rattle.std.specs.Fmt.{signed_decimal}
 use Rattle.std.specs.Int.RustNames.{FitsSigned}
 use Rattle.std.proofs.lemmas.Int.{ints, to_z-of_z}
 use Rattle.std.proofs.lemmas.Bool.{cases_lt}
-use Rattle.doc_model.specs.declared.status.Status.{Status}
 use Rattle.doc_model.specs.declared.status.TheConstants.Status as status
 use Rattle.json_model.specs.declared.kinds.Kind.{Kind}
 use Rattle.json_model.specs.declared.kinds.Kind.TheVariants as kinds
 use Rattle.json_model.specs.declared.kinds.Shape.{Shape}
 use Rattle.json_model.specs.declared.kinds.Shape.TheVariants as shapes
 use Rattle.json_model.specs.Grammar.{IsNumber}
-use Rattle.json_model.specs.Spelled.{Tree, leaf, empty, group, text, Fits, Document}
+use Rattle.json_model.specs.Spelled.{Tree, leaf, empty, group, Fits, Document}
 use Rattle.json_model.specs.Moves.{put}
 use Rattle.json_model.specs.Edit.{Act, counted, number_of, whole_of, fits_i64}
 use Rattle.json_spell.specs.declared.node.Node.{Node}

@@ -1,12 +1,11 @@
 -- What is done where a path leads to a value.
-use Rattle.std.proofs.Common.{◌≡◌, ◌≢◌, ℕ, nat_eq, zero, suc, ◌+◌, ◌-◌, ◌<◌, ◌≤◌, List, [], ◌∷◌, ◌++◌, length, take, drop, get_or, Bool, true, false, cond, Option, None, Some, Result, Ok, Err, ◌⊎◌, inl, inr, refl, sym, ap, subst, ◌∙◌, arith, ℤ}
+use Rattle.std.proofs.Common.{◌≡◌, ℕ, nat_eq, suc, ◌+◌, ◌-◌, ◌<◌, ◌≤◌, List, [], ◌∷◌, ◌++◌, length, take, get_or, Bool, true, false, Option, None, Some, Result, Ok, Err, inl, inr, refl, sym, ap, subst, ◌∙◌, arith, ℤ}
 use Rattle.std.specs.Prelude.{if◌then◌else◌}
 use Rattle.std.specs.List.{list_all, list_any}
 use Rattle.std.specs.Cmp.Lexicographic.{pointwise}
 use Rattle.doc_model.specs.declared.status.Status.{Status}
 use Rattle.doc_model.specs.declared.status.TheConstants.Status as status
 use Rattle.doc_model.specs.declared.status.Refused.TheVariants as refusals
-use Rattle.json_model.specs.declared.TheConstants.{MOST_DEEP}
 use Rattle.json_model.specs.declared.kinds.Kind.{Kind}
 use Rattle.json_model.specs.declared.kinds.Kind.TheVariants as kinds
 use Rattle.json_model.specs.declared.kinds.Shape.{Shape}
@@ -14,16 +13,15 @@ use Rattle.json_model.specs.declared.kinds.Shape.TheVariants as shapes
 use Rattle.json_model.specs.declared.asked.Part.{Part}
 use Rattle.json_model.specs.Grammar.{IsLeaf}
 use Rattle.json_model.specs.Spelled.{Tree, leaf, empty, group, Parts, text, parts_text, depth, count, Fits, Document, IsText}
-use Rattle.json_model.specs.Follow.{child, earlier, Outcome, reached, missing, Follows, place}
+use Rattle.json_model.specs.Follow.{earlier, Outcome, reached, Follows, place}
 use Rattle.json_model.specs.Moves.{Change, put, push, insert, remove}
 use Rattle.json_model.specs.Splices.{Reaches}
-use Rattle.json_model.specs.Edit.{Asked, dict_add, dict_upsert, delete, replace, push_last, push_first, array_insert, add_unique, counter, Act, act, above, final, elements, array_elements, is_leaf, element, to_array, to_set, counted, number_of, at_value, act_at}
-use Rattle.json_model.specs.Order.{Acts, ends_in_index}
+use Rattle.json_model.specs.Edit.{Asked, delete, array_insert, add_unique, counter, Act, act, above, final, elements, array_elements, is_leaf, element, to_array, to_set, at_value, act_at}
+use Rattle.json_model.specs.Order.{ends_in_index}
 use Rattle.json_model.specs.Values.{GivesTree, GivesParts, GivesLeaf, GivesDelta, IsDelta}
 use Rattle.json_model.proofs.Following.{reached_trail}
 use Rattle.json_spell.specs.declared.node.Node.{Node}
 use Rattle.json_spell.specs.declared.node.Span.{Span}
-use Rattle.json_spell.specs.Nodes.{kind_of}
 use Rattle.subdoc_path.specs.declared.finding.Found.TheVariants as found
 use Rattle.subdoc_path.specs.Leading.{Leads}
 use Rattle.subdoc_path.specs.Standing.{Stands, IsStanding}
@@ -32,11 +30,10 @@ use Rattle.subdoc_edit.specs.declared.plan.Plan.{Plan}
 use Rattle.subdoc_edit.specs.declared.plan.Content.{Content}
 use Rattle.subdoc_edit.specs.Given.{IsTree, IsParts, Describes, IsCutOut, given_bytes}
 use Rattle.subdoc_edit.specs.Splicing.{IsArray, Holds, IsPartOf}
-use Rattle.subdoc_edit.specs.Planning.{Plans, Stood, LeadsTo, IsNew, IsContent, PlansPut, PlansPush, PlansFront, PlansInsert, PlansRemove, Decides, TellsArray, TellsSet, TellsCounter}
-use Rattle.subdoc_edit.proofs.Pieces.{Says, says}
-use Rattle.subdoc_edit.proofs.Looks.{leaf_holds}
+use Rattle.subdoc_edit.specs.Planning.{Plans, Stood, LeadsTo, IsNew, IsContent, PlansPut, PlansPush, PlansInsert, PlansRemove, Decides, TellsArray, TellsSet, TellsCounter}
+use Rattle.subdoc_edit.proofs.Pieces.{says}
 use Rattle.subdoc_edit.proofs.Spots.{Spot, spot_of, document_with}
-use Rattle.subdoc_edit.proofs.Trails.{Reached, leads_at, trail_long, Inner, inner, fronts, fronts_take, child_few, above_long, told_at}
+use Rattle.subdoc_edit.proofs.Trails.{Reached, leads_at, trail_long, inner, fronts, fronts_take, child_few, above_long, told_at}
 use Rattle.json_model.specs.Moves.{at_trail}
 
 -- ---- what is given

@@ -9,20 +9,19 @@ use Rattle.doc_model.specs.declared.status.Refused.TheVariants as refusals
 use Rattle.json_model.specs.declared.TheConstants.{MOST_DEEP, TEXT_LIMIT}
 use Rattle.json_model.specs.declared.asked.Edit.{Edit}
 use Rattle.json_model.specs.declared.asked.Part.{Part}
-use Rattle.json_model.specs.declared.asked.Part.TheVariants.{Member, At, Last}
-use Rattle.json_model.specs.Spelled.{Tree, depth, Document, IsText}
+use Rattle.json_model.specs.Spelled.{depth, Document, IsText}
 use Rattle.json_model.specs.Moves.{Change, at_trail, changed}
 use Rattle.json_model.specs.Edit.{Asked, Act}
 use Rattle.json_model.specs.Paths.{ReadsPath}
 use Rattle.json_model.specs.Values.{Gives}
-use Rattle.json_model.specs.Order.{ReadsText, takes, HasForm, Acts, Edited, done_to, shallow, EditsTree, EditedText, within_document, small, Edits, ends_in_name, ends_in_index}
+use Rattle.json_model.specs.Order.{ReadsText, takes, Acts, Edited, done_to, shallow, EditsTree, EditedText, within_document, small, ends_in_name, ends_in_index}
 use Rattle.json_spell.specs.declared.node.Node.{Node}
 use Rattle.json_spell.specs.Places.{Spans}
 use Rattle.subdoc_edit.specs.declared.values.Given.{Given}
 use Rattle.subdoc_edit.specs.declared.plan.Plan.{Plan}
 use Rattle.subdoc_edit.specs.declared.editing.Edited.{Edited as Made}
 use Rattle.subdoc_edit.specs.Given.{IsGiven}
-use Rattle.subdoc_edit.specs.Planning.{plan_bytes, changed_text, Writes, Plans, Decides, DecidesGiven}
+use Rattle.subdoc_edit.specs.Planning.{plan_bytes, changed_text, Writes, Plans, DecidesGiven}
 use Rattle.subdoc_edit.specs.Editing.{TellsEdit, IsPlanned, Finishes}
 use Rattle.subdoc_edit.specs.Telling.{Told}
 use Rattle.subdoc_edit.proofs.Splices.{Cut, cut_is}

@@ -1,24 +1,21 @@
 -- What is done where parts of a path name nothing.
-use Rattle.std.proofs.Common.{◌≡◌, ◌≢◌, ℕ, nat_eq, zero, suc, ◌+◌, ◌-◌, ◌<◌, ◌≤◌, List, [], ◌∷◌, ◌++◌, length, take, drop, get_or, Bool, true, false, ◌||◌, ◌&&◌, Option, None, Some, Result, Ok, Err, ◌⊎◌, inl, inr, refl, sym, ap, subst, ◌∙◌, arith, ℤ}
+use Rattle.std.proofs.Common.{◌≡◌, ℕ, suc, ◌+◌, ◌-◌, ◌≤◌, List, [], ◌∷◌, ◌++◌, length, take, drop, get_or, Bool, true, false, ◌||◌, ◌&&◌, Option, None, Some, Result, Ok, Err, inl, inr, refl, sym, ap, subst, ◌∙◌, arith, ℤ}
 use Rattle.std.specs.Prelude.{if◌then◌else◌, ◌==◌, option_map}
 use Rattle.std.specs.Fmt.{signed_decimal}
 use Rattle.std.proofs.lemmas.Bool.{eq-eqb, eqb-true}
-use Rattle.doc_model.specs.declared.status.Status.{Status}
 use Rattle.doc_model.specs.declared.status.TheConstants.Status as status
 use Rattle.doc_model.specs.declared.status.Refused.{Refused}
 use Rattle.doc_model.specs.declared.status.Refused.TheVariants as refusals
 use Rattle.json_model.specs.declared.TheConstants.{MOST_DEEP}
-use Rattle.json_model.specs.declared.kinds.Kind.{Kind}
 use Rattle.json_model.specs.declared.kinds.Kind.TheVariants as kinds
 use Rattle.json_model.specs.declared.kinds.Shape.{Shape}
 use Rattle.json_model.specs.declared.kinds.Shape.TheVariants as shapes
-use Rattle.json_model.specs.declared.asked.Edit.{Edit}
 use Rattle.json_model.specs.declared.asked.Part.{Part}
 use Rattle.json_model.specs.declared.asked.Part.TheVariants.{Member, At, Last}
 use Rattle.json_model.specs.Spelled.{Tree, leaf, empty, group, Parts, last, more, text, parts_text, depth, parts_depth, count, Fits, Document}
-use Rattle.json_model.specs.Follow.{asks, Outcome, reached, missing, Follows, place}
-use Rattle.json_model.specs.Moves.{Change, push}
-use Rattle.json_model.specs.Edit.{Asked, dict_add, dict_upsert, push_last, push_first, array_insert, add_unique, counter, Act, act, elements, array_elements, element, member, nested, names_of, made, make, with_number, at_length, at_gap, act_at}
+use Rattle.json_model.specs.Follow.{asks, missing, Follows}
+use Rattle.json_model.specs.Moves.{push}
+use Rattle.json_model.specs.Edit.{Asked, array_insert, add_unique, counter, act, elements, array_elements, element, member, nested, names_of, made, make, with_number, at_length, at_gap}
 use Rattle.json_model.specs.Values.{GivesTree, GivesParts, GivesLeaf, GivesDelta, IsDelta}
 use Rattle.json_model.proofs.Following.{reached_trail}
 use Rattle.json_spell.specs.declared.node.Node.{Node}
@@ -30,13 +27,12 @@ use Rattle.subdoc_edit.specs.declared.values.Given.{Given}
 use Rattle.subdoc_edit.specs.declared.parents.Around.{Around}
 use Rattle.subdoc_edit.specs.declared.plan.Plan.{Plan}
 use Rattle.subdoc_edit.specs.declared.plan.Content.{Content}
-use Rattle.subdoc_edit.specs.Given.{IsTree, IsParts, Describes, IsCutOut, given_bytes}
+use Rattle.subdoc_edit.specs.Given.{IsTree, IsParts, Describes}
 use Rattle.subdoc_edit.specs.Parents.{IsAround}
-use Rattle.subdoc_edit.specs.Telling.{Told}
 use Rattle.subdoc_edit.specs.Splicing.{Holds, IsArray}
-use Rattle.subdoc_edit.specs.Planning.{Plans, Stood, Misses, IsNew, IsWritten, IsContent, PlansPush, PlansMember, MakesMember, TellsIndex, Decides}
+use Rattle.subdoc_edit.specs.Planning.{Stood, Misses, IsNew, IsContent, PlansPush, PlansMember, MakesMember, TellsIndex, Decides}
 use Rattle.subdoc_edit.proofs.Pieces.{says}
-use Rattle.subdoc_edit.proofs.Trails.{Missed, leads_missing, Lacks, lacks, IsShaped, told_at, told_missing}
+use Rattle.subdoc_edit.proofs.Trails.{leads_missing, Lacks, lacks, IsShaped, told_at, told_missing}
 use Rattle.subdoc_edit.proofs.Decisions.{gives_tree, gives_parts, gives_leaf, gives_delta, one_value, content_of, new_of, spotted, stood_stands, decided, refused, decides_as, array_holds}
 
 -- ---- where

@@ -16,7 +16,7 @@ use Rattle.json_model.specs.declared.asked.Lookup.TheVariants as lookups
 use Rattle.json_model.specs.Edit.{looked, look_at}
 use Rattle.json_model.specs.Follow.{Outcome, reached, missing, mismatch, Follows, place}
 use Rattle.json_model.specs.Grammar.{IsLeaf}
-use Rattle.json_model.specs.Order.{Looks, LooksTree, ReadsText}
+use Rattle.json_model.specs.Order.{Looks, ReadsText}
 use Rattle.json_model.specs.Paths.{ReadsPath}
 use Rattle.json_model.specs.Spelled.{Tree, leaf, empty, group, Fits, Document, IsText}
 use Rattle.json_model.proofs.Following.{reached_trail}
@@ -29,7 +29,7 @@ use Rattle.subdoc_path.specs.Leading.{Tells, Leads}
 use Rattle.subdoc_path.specs.Standing.{Stands}
 use Rattle.subdoc_edit.specs.declared.looking.Piece.{Piece}
 use Rattle.subdoc_edit.specs.Kinds.{holds_others}
-use Rattle.subdoc_edit.specs.Looking.{piece_text, IsWithin, TellsLooked, TellsLook}
+use Rattle.subdoc_edit.specs.Looking.{piece_text, TellsLooked, TellsLook}
 use Rattle.subdoc_edit.specs.Telling.{Told}
 use Rattle.subdoc_edit.proofs.Pieces.{Says, slice_of}
 use Rattle.json_model.specs.Moves.{at_trail}

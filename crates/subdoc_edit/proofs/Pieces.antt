@@ -1,11 +1,11 @@
 -- What a node says of its value, and the value's text as a slice.
-use Rattle.std.proofs.Common.{◌≡◌, ℕ, suc, ◌+◌, ◌-◌, ◌<◌, ◌≤◌, List, [], ◌∷◌, ◌++◌, length, get_or, take, drop, refl, sym, ap, subst, ◌∙◌, arith, append_assoc, length-append}
+use Rattle.std.proofs.Common.{◌≡◌, ℕ, ◌+◌, ◌-◌, ◌≤◌, List, [], ◌∷◌, ◌++◌, length, get_or, take, drop, refl, sym, ap, subst, ◌∙◌, arith, length-append}
 use Rattle.std.proofs.lemmas.List.{take_at, drop_at}
 use Rattle.json_model.specs.declared.kinds.Kind.{Kind}
 use Rattle.json_spell.specs.declared.node.Node.{Node}
 use Rattle.json_spell.specs.declared.node.Span.{Span}
-use Rattle.json_model.specs.Spelled.{Tree, leaf, empty, group, Parts, last, more, text, parts_text, size, parts_size, count}
-use Rattle.json_spell.specs.Nodes.{kind_of, tree_nodes, parts_nodes}
+use Rattle.json_model.specs.Spelled.{Tree, leaf, empty, group, text, parts_text, size, parts_size, count}
+use Rattle.json_spell.specs.Nodes.{kind_of, parts_nodes}
 use Rattle.subdoc_path.specs.Standing.{Stands}
 
 -- the kind of a value

@@ -1,5 +1,5 @@
 -- Where the node list has the places at which parts change.
-use Rattle.std.proofs.Common.{◌≡◌, ℕ, zero, suc, ◌+◌, ◌-◌, ◌<◌, ◌≤◌, List, [], ◌∷◌, ◌++◌, length, get_or, Some, ◌⊎◌, inl, inr, refl, sym, ap, subst, ◌∙◌, arith, append_assoc, length-append}
+use Rattle.std.proofs.Common.{◌≡◌, ℕ, zero, suc, ◌+◌, ◌-◌, ◌<◌, ◌≤◌, List, [], ◌∷◌, ◌++◌, length, get_or, ◌⊎◌, inl, inr, refl, sym, ap, ◌∙◌, arith, append_assoc, length-append}
 use Rattle.std.proofs.lemmas.Bool.{cases_lt}
 use Rattle.json_spell.specs.declared.node.Node.{Node}
 use Rattle.json_spell.specs.declared.node.Span.{Span}
@@ -7,12 +7,12 @@ use Rattle.json_spell.specs.Nodes.{kind_of, key_span}
 use Rattle.json_model.specs.declared.kinds.Shape.{Shape}
 use Rattle.json_model.specs.declared.kinds.Shape.TheVariants as shapes
 use Rattle.json_model.specs.Spelled.{Head, plain, keyed, Tree, leaf, empty, group, Parts, last, more, opening, closing, text, head_text, parts_text, HeadFits, Fits, PartsFit, count, parts_size, size}
-use Rattle.json_model.specs.Follow.{child, earlier}
+use Rattle.json_model.specs.Follow.{earlier}
 use Rattle.json_model.specs.Moves.{gap_before, ended, pushed, inserted, with_pushed, with_inserted, with_removed, without}
 use Rattle.subdoc_path.specs.Standing.{Stands, StandsParts, IsStanding, FindsElement}
-use Rattle.subdoc_path.proofs.Walking.{first_node, next_parts, head_of, tree_of, size_some}
-use Rattle.subdoc_path.proofs.Following.{stands_inside, stands_child, child_there, there}
-use Rattle.subdoc_edit.specs.Splicing.{Spliced, IsTrimmed, Holds, IsArray, comma_if, start_of}
+use Rattle.subdoc_path.proofs.Walking.{first_node, next_parts, size_some}
+use Rattle.subdoc_path.proofs.Following.{stands_inside, stands_child, child_there}
+use Rattle.subdoc_edit.specs.Splicing.{Spliced, IsTrimmed, Holds, IsArray, start_of}
 use Rattle.subdoc_edit.proofs.Pieces.{says, slice_of}
 use Rattle.subdoc_edit.proofs.Splices.{spliced_at, spliced_as, between, start_in, end_in, step, trimmed_ended, push_parts, insert_parts, cut_before, cut_behind, cut_only}
 

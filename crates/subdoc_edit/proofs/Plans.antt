@@ -1,13 +1,13 @@
 -- Plans are those of their changes.
-use Rattle.std.proofs.Common.{◌≡◌, ℕ, zero, suc, ◌+◌, ◌-◌, ◌<◌, ◌≤◌, max, List, [], ◌∷◌, ◌++◌, length, take, drop, get_or, Bool, true, false, Option, Some, None, ◌⊎◌, inl, inr, refl, sym, ap, subst, ◌∙◌, arith, append_assoc, ℤ}
+use Rattle.std.proofs.Common.{◌≡◌, ℕ, zero, suc, ◌+◌, ◌-◌, ◌<◌, ◌≤◌, max, List, [], ◌∷◌, ◌++◌, length, take, drop, get_or, Bool, false, Option, Some, inl, inr, refl, sym, ap, subst, ◌∙◌, arith, append_assoc, ℤ}
 use Rattle.json_model.specs.declared.TheConstants.{MOST_DEEP}
 use Rattle.std.specs.Fmt.{signed_decimal}
 use Rattle.json_model.specs.declared.kinds.Kind.TheVariants as kinds
 use Rattle.json_model.specs.declared.kinds.Shape.{Shape}
 use Rattle.json_model.specs.declared.kinds.Shape.TheVariants as shapes
-use Rattle.json_model.specs.Spelled.{Head, Tree, leaf, empty, group, Parts, last, more, text, parts_text, depth, parts_depth, count, Fits, Document, IsText}
-use Rattle.json_model.specs.Follow.{child, earlier, place}
-use Rattle.json_model.specs.Moves.{Change, put, push, insert, remove, at_trail, changed, gap_before, ended, pushed, inserted, without, led, with_pushed, with_inserted, with_removed}
+use Rattle.json_model.specs.Spelled.{Head, Tree, leaf, empty, group, Parts, last, more, text, parts_text, depth, parts_depth, count, Fits, Document}
+use Rattle.json_model.specs.Follow.{child, earlier}
+use Rattle.json_model.specs.Moves.{Change, put, push, insert, remove, at_trail, changed, gap_before, without, with_pushed, with_inserted, with_removed}
 use Rattle.json_model.specs.Splices.{Reaches, here, there}
 use Rattle.json_model.specs.Edit.{member, nested}
 use Rattle.json_model.proofs.Depths.{Both, trail_depth, led_depth, ended_depth, pushed_depth, inserted_depth}
@@ -19,9 +19,9 @@ use Rattle.subdoc_edit.specs.declared.parents.Around.{Around}
 use Rattle.subdoc_edit.specs.declared.places.Gap.{Gap}
 use Rattle.subdoc_edit.specs.declared.plan.Plan.{Plan}
 use Rattle.subdoc_edit.specs.declared.plan.Content.{Content}
-use Rattle.subdoc_edit.specs.Splicing.{Spliced, IsTrimmed, Holds, IsArray, comma_if, EndsAt, BeginsAt, CutsAt}
+use Rattle.subdoc_edit.specs.Splicing.{Spliced, Holds, IsArray, comma_if, EndsAt, BeginsAt, CutsAt}
 use Rattle.subdoc_edit.specs.Numbers.{IsNumberPlan}
-use Rattle.subdoc_edit.specs.Planning.{plan_bytes, changed_text, Writes, Plans, Stood, IsNew, IsWritten, IsContent, bracket_before, bracket_behind}
+use Rattle.subdoc_edit.specs.Planning.{plan_bytes, changed_text, Plans, Stood, IsNew, IsWritten, IsContent, bracket_before, bracket_behind}
 use Rattle.subdoc_edit.proofs.Pieces.{says}
 use Rattle.subdoc_edit.proofs.Splices.{spliced_as}
 use Rattle.subdoc_edit.proofs.Spots.{Spot, spot_of, document_with}

@@ -1,18 +1,17 @@
 -- Parts looked at one by one.
-use Rattle.std.proofs.Common.{◌≡◌, ℕ, nat_eq, zero, suc, ◌+◌, ◌-◌, ◌<◌, ◌≤◌, List, [], ◌∷◌, length, get_or, take, drop, Bool, true, false, ◌&&◌, ◌||◌, Some, ◌⊎◌, inl, inr, refl, sym, ap, subst, ◌∙◌, arith}
+use Rattle.std.proofs.Common.{◌≡◌, ℕ, nat_eq, ◌+◌, ◌<◌, ◌≤◌, List, [], ◌∷◌, length, get_or, Bool, true, false, ◌&&◌, ◌||◌, ◌⊎◌, inl, inr, refl, sym, ap, subst, ◌∙◌, arith}
 use Rattle.std.specs.List.{list_all, list_any}
 use Rattle.std.specs.Cmp.Lexicographic.{pointwise}
 use Rattle.json_spell.specs.declared.node.Node.{Node}
 use Rattle.json_spell.specs.declared.node.Span.{Span}
-use Rattle.json_model.specs.declared.kinds.Kind.{Kind}
 use Rattle.json_model.specs.declared.kinds.Shape.{Shape}
-use Rattle.json_model.specs.Spelled.{Head, Tree, leaf, empty, group, Parts, last, more, text, head_text, Fits, count, size}
+use Rattle.json_model.specs.Spelled.{Tree, leaf, empty, group, Parts, last, more, text, head_text, Fits, count, size}
 use Rattle.json_model.specs.Edit.{elements, is_leaf}
 use Rattle.subdoc_path.specs.Standing.{Stands, StandsParts}
 use Rattle.subdoc_path.proofs.Walking.{first_node, next_parts}
 use Rattle.subdoc_path.proofs.Following.{stands_child}
 use Rattle.subdoc_edit.specs.Kinds.{holds_others}
-use Rattle.subdoc_edit.proofs.Pieces.{Says, says, Slice, slice_of}
+use Rattle.subdoc_edit.proofs.Pieces.{Says, says}
 use Rattle.subdoc_edit.proofs.Looks.{shape_holds, leaf_holds}
 
 -- what is asked of all parts is what is asked of those that are left

@@ -1,7 +1,6 @@
 -- Changes of parts are splices of their bytes.
-use Rattle.std.proofs.Common.{◌≡◌, ℕ, zero, suc, ◌+◌, ◌-◌, ◌<◌, ◌≤◌, List, [], ◌∷◌, ◌++◌, length, take, drop, refl, sym, ap, ◌∙◌, arith, append_assoc, length-append}
+use Rattle.std.proofs.Common.{◌≡◌, ℕ, zero, suc, ◌+◌, ◌<◌, ◌≤◌, List, [], ◌∷◌, ◌++◌, length, take, drop, refl, sym, ap, ◌∙◌, arith, append_assoc, length-append}
 use Rattle.std.proofs.lemmas.List.{take_at, drop_at}
-use Rattle.json_model.specs.declared.kinds.Shape.{Shape}
 use Rattle.json_model.specs.Spelled.{Head, plain, keyed, Tree, Parts, last, more, text, head_text, parts_text, count}
 use Rattle.json_model.specs.Moves.{gap_before, led_head, led, ended, joined, pushed, inserted, without}
 use Rattle.subdoc_edit.specs.Splicing.{Spliced, IsTrimmed}

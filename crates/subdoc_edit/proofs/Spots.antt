@@ -1,12 +1,11 @@
 -- Where a value stands in a document, and what the text becomes with another value in its place.
-use Rattle.std.proofs.Common.{◌≡◌, ℕ, zero, suc, ◌+◌, ◌-◌, ◌<◌, ◌≤◌, List, [], ◌∷◌, ◌++◌, length, get_or, take, drop, Option, Some, refl, sym, ap, subst, ◌∙◌, arith, append_assoc, length-append}
+use Rattle.std.proofs.Common.{◌≡◌, ℕ, zero, suc, ◌+◌, List, [], ◌∷◌, ◌++◌, length, Option, Some, refl, sym, ap, subst, ◌∙◌, arith, append_assoc, length-append}
 use Rattle.std.specs.Prelude.{option_map, unwrap_or}
-use Rattle.std.proofs.lemmas.List.{take_at, drop_at}
 use Rattle.json_model.specs.declared.TheConstants.{MOST_DEEP}
 use Rattle.json_model.specs.declared.kinds.Shape.{Shape}
 use Rattle.json_spell.specs.declared.node.Node.{Node}
 use Rattle.json_spell.specs.declared.node.Span.{Span}
-use Rattle.json_model.specs.Spelled.{Head, Tree, leaf, empty, group, Parts, last, more, opening, closing, text, head_text, parts_text, Fits, PartsFit, size, parts_size, count, Document, document_text, IsText}
+use Rattle.json_model.specs.Spelled.{Head, Tree, group, Parts, last, more, opening, closing, text, head_text, parts_text, Fits, size, parts_size, count, Document, document_text, IsText}
 use Rattle.json_model.specs.Follow.{child, earlier, place}
 use Rattle.json_model.specs.Moves.{at_part, at_trail}
 use Rattle.json_model.specs.Splices.{Reaches, here, there}

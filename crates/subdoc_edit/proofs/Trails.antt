@@ -1,16 +1,15 @@
 -- What stands on the way of a path.
-use Rattle.std.proofs.Common.{◌≡◌, ◌≢◌, ℕ, zero, suc, ◌+◌, ◌-◌, ◌<◌, ◌≤◌, List, [], ◌∷◌, length, take, drop, Bool, true, false, Option, Some, ◌⊎◌, inl, inr, refl, sym, ap, subst, ◌∙◌, arith}
+use Rattle.std.proofs.Common.{◌≡◌, ℕ, zero, suc, ◌+◌, ◌<◌, List, [], ◌∷◌, length, take, drop, true, Option, Some, inl, inr, refl, sym, ap, subst, ◌∙◌, arith}
 use Rattle.std.specs.Prelude.{option_map, unwrap_or}
 use Rattle.json_model.specs.declared.kinds.Shape.{Shape}
 use Rattle.json_model.specs.declared.kinds.Shape.TheVariants as shapes
 use Rattle.json_model.specs.declared.asked.Part.{Part}
 use Rattle.json_model.specs.declared.asked.Part.TheVariants.{Member, At, Last}
 use Rattle.json_model.specs.Spelled.{Tree, leaf, empty, group, Parts, last, more, count}
-use Rattle.json_model.specs.Follow.{asks, Names, child, earlier, Outcome, reached, missing, mismatch, over, Follows, place}
+use Rattle.json_model.specs.Follow.{asks, child, earlier, Outcome, reached, missing, mismatch, over, Follows, place}
 use Rattle.json_model.specs.Edit.{above, final}
 use Rattle.json_model.specs.Order.{ends_in_index}
-use Rattle.json_model.specs.Splices.{Reaches}
-use Rattle.json_model.proofs.Following.{follows_one, reached_trail}
+use Rattle.json_model.proofs.Following.{follows_one}
 use Rattle.subdoc_path.specs.declared.finding.Found.TheVariants as found
 use Rattle.subdoc_path.specs.Leading.{Tells, Leads}
 

@@ -1,5 +1,5 @@
 -- Whole numbers.
-use Rattle.std.specs.Prelude.{◌≡◌, ℕ, List, [], ◌++◌, Bool, true, false, Option, None, Some, ℤ, IsTrue}
+use Rattle.std.specs.Prelude.{◌≡◌, ℕ, List, [], true, false, None, Some, ℤ}
 use Rattle.std.specs.Fmt.{signed_decimal}
 use Rattle.json_model.specs.Edit.{whole_of, fits_i64}
 use Rattle.json_spell.specs.declared.node.Node.{Node}

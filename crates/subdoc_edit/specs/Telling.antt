@@ -1,5 +1,5 @@
 -- What is told of an answer that may be a refusal.
-use Rattle.std.specs.Prelude.{List, ℕ, Result, Ok, Err}
+use Rattle.std.specs.Prelude.{Result, Ok, Err}
 use Rattle.doc_model.specs.declared.status.Status.{Status}
 use Rattle.doc_model.specs.declared.status.Refused.{Refused}
 use Rattle.doc_model.specs.declared.status.Refused.TheVariants as refusals

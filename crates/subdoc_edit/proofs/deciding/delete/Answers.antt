@@ -1,4 +1,4 @@
-use Rattle.std.proofs.Common.{sym, ◌∙◌, ap, subst, List}
+use Rattle.std.proofs.Common.{sym, subst, List}
 use Rattle.json_spell.specs.declared.node.Node.{Node}
 use Rattle.subdoc_edit.specs.Planning.{LeadsTo}
 use Rattle.subdoc_edit.proofs.Decisions.{remove_decides, remove_part}

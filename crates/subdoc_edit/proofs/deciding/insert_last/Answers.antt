@@ -1,7 +1,7 @@
-use Rattle.std.proofs.Common.{◌≡◌, List, sym, subst, ap, ◌∙◌, get_or, rules}
+use Rattle.std.proofs.Common.{List, sym, subst, ap, ◌∙◌, get_or}
 use Rattle.json_spell.specs.declared.node.Node.{Node}
 use Rattle.subdoc_path.specs.Standing.{IsStanding}
-use Rattle.subdoc_edit.specs.Planning.{Misses, PlansPush}
+use Rattle.subdoc_edit.specs.Planning.{PlansPush}
 use Rattle.subdoc_edit.proofs.Gaps.{missed_within, missed_stands, insert_no_index, insert_other, insert_end}
 use Rattle.subdoc_edit.proofs.deciding.insert_last.Goals as goal
 

@@ -1,9 +1,9 @@
-use Rattle.std.proofs.Common.{◌≡◌, List, length, Option, None, Some, sym, subst, ◌∙◌}
+use Rattle.std.proofs.Common.{List, length, Option, sym, subst}
 use Rattle.json_spell.specs.declared.node.Node.{Node}
 use Rattle.subdoc_path.specs.Standing.{IsStanding}
 use Rattle.subdoc_edit.specs.declared.parents.Around.{Around}
 use Rattle.subdoc_edit.specs.Parents.{IsAround}
-use Rattle.subdoc_edit.specs.Planning.{Misses, PlansMember}
+use Rattle.subdoc_edit.specs.Planning.{PlansMember}
 use Rattle.subdoc_edit.proofs.Gaps.{missed_within, missed_stands, makes_not, makes_none, makes_one}
 use Rattle.subdoc_edit.proofs.deciding.make.Goals as goal
 

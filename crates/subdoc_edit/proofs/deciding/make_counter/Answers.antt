@@ -1,4 +1,4 @@
-use Rattle.std.proofs.Common.{List, length, true, false, Some, rules, subst, ℤ, w64}
+use Rattle.std.proofs.Common.{length, true, false, Some, rules, subst, ℤ, w64}
 use Rattle.std.proofs.lemmas.Int.{to_z-of_z}
 use Rattle.std.specs.Int.RustNames.{FitsSigned}
 use Rattle.subdoc_edit.specs.Planning.{MakesMember}

@@ -1,5 +1,5 @@
-use Rattle.std.proofs.Common.{refl, Bool, true, false, ◌≡◌, sym, ap, subst, ◌∙◌, rules}
-use Rattle.json_model.specs.Moves.{Change, insert}
+use Rattle.std.proofs.Common.{refl, Bool, true, false, ◌≡◌, subst, rules}
+use Rattle.json_model.specs.Moves.{insert}
 use Rattle.json_model.specs.Edit.{push_first}
 use Rattle.subdoc_edit.specs.Planning.{TellsArray}
 use Rattle.subdoc_edit.proofs.Decisions.{found_stands, no_array, an_array}

@@ -1,4 +1,4 @@
-use Rattle.std.proofs.Common.{refl, Bool, true, false, ◌≡◌, sym, ap, subst, ◌∙◌, rules}
+use Rattle.std.proofs.Common.{refl, Bool, true, false, ◌≡◌, subst, rules}
 use Rattle.json_model.specs.Moves.{push}
 use Rattle.json_model.specs.Edit.{push_last}
 use Rattle.subdoc_edit.specs.Planning.{TellsArray}

@@ -6,7 +6,7 @@ use Rattle.json_model.specs.Order.{takes}
 use Rattle.subdoc_edit.specs.declared.editing.Edited.{Edited}
 use Rattle.subdoc_edit.specs.Editing.{TellsEdit}
 use Rattle.subdoc_edit.specs.Planning.{DecidesGiven}
-use Rattle.subdoc_edit.proofs.Edits.{path_not, text_not, form_not, value_not, place_not, planned, told}
+use Rattle.subdoc_edit.proofs.Edits.{form_not, value_not, place_not, planned, told}
 use Rattle.subdoc_edit.proofs.editing.edit_at.Goals as goal
 
 pub returns-then-not-takes : goal.returns-then-not-takes

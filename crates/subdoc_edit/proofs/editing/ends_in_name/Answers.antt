@@ -1,4 +1,4 @@
-use Rattle.std.proofs.Common.{List, [], ◌∷◌, sym, ap, ◌∙◌, rules, arith}
+use Rattle.std.proofs.Common.{[], ◌∷◌, sym, ap, ◌∙◌, arith}
 use Rattle.json_model.specs.declared.asked.Part.{Part}
 use Rattle.json_model.specs.Order.{ends_in_name}
 use Rattle.subdoc_edit.proofs.Edits.{last_name}

@@ -1,5 +1,4 @@
-use Rattle.std.proofs.Common.{arith}
-use Rattle.subdoc_edit.proofs.Edits.{too_deep, too_big, finished}
+use Rattle.subdoc_edit.proofs.Edits.{finished}
 use Rattle.subdoc_edit.proofs.editing.finish.Goals as goal
 
 pub returns : goal.returns

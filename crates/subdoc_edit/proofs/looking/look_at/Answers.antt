@@ -1,4 +1,4 @@
-use Rattle.std.proofs.Common.{List, Result, Err, sym, ap, subst, ◌∙◌}
+use Rattle.std.proofs.Common.{Result, Err, sym, ap, subst, ◌∙◌}
 use Rattle.std.proofs.lemmas.Result.{err_from_is_err_and}
 use Rattle.doc_model.specs.declared.status.Refused.{Refused}
 use Rattle.subdoc_edit.specs.declared.looking.Piece.{Piece}

@@ -1,4 +1,4 @@
-use Rattle.std.proofs.Common.{Result, Ok, Err, None, Some, rules, subst, sym}
+use Rattle.std.proofs.Common.{Ok, Err, None, Some, rules, subst, sym}
 use Rattle.doc_model.specs.declared.status.TheConstants.Status as status
 use Rattle.doc_model.specs.declared.status.Refused.TheVariants as refusals
 use Rattle.json_model.specs.declared.asked.Lookup.{Lookup}

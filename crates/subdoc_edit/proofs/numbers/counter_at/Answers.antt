@@ -1,4 +1,4 @@
-use Rattle.std.proofs.Common.{◌≡◌, ◌≢◌, rules, arith, sym, subst, ◌∙◌, List, ℕ, ℤ, ◌+ℤ◌, w64}
+use Rattle.std.proofs.Common.{◌≡◌, ◌≢◌, rules, sym, subst, ◌∙◌, List, ℕ, ℤ, ◌+ℤ◌, w64}
 use Rattle.std.specs.Int.RustNames.{FitsSigned}
 use Rattle.std.proofs.lemmas.Int.{to_z-of_z}
 use Rattle.subdoc_edit.specs.Numbers.{IsNumberPlan}

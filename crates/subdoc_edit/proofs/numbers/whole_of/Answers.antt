@@ -1,4 +1,4 @@
-use Rattle.std.proofs.Common.{List, ℕ, Err, true, sym, ap, subst, ◌∙◌, w64}
+use Rattle.std.proofs.Common.{List, ℕ, Err, sym, ap, subst, ◌∙◌, w64}
 use Rattle.std.specs.List.{list_all}
 use Rattle.std.specs.Str.Parse.{ParsesSigned}
 use Rattle.json_model.specs.Edit.{is_digit}

@@ -1,7 +1,7 @@
-use Rattle.std.proofs.Common.{◌≡◌, ◌+◌, ◌-◌, ◌<◌, suc, [], refl, arith, sym, ◌∙◌, subst, ap, rules}
+use Rattle.std.proofs.Common.{◌+◌, ◌-◌, ◌<◌, [], refl, arith}
 use Rattle.json_model.specs.Spelled.{count, Fits}
 use Rattle.subdoc_path.proofs.Following.{stands_inside}
-use Rattle.subdoc_edit.proofs.Placed.{part_there, part_says, next_there, cut_next, cut_last, cut_alone, many_parts}
+use Rattle.subdoc_edit.proofs.Placed.{part_there, next_there, cut_next, cut_last, cut_alone, many_parts}
 use Rattle.subdoc_edit.specs.Splicing.{start_of}
 use Rattle.subdoc_edit.proofs.Splices.{spliced_at}
 use Rattle.subdoc_edit.proofs.places.cut_of.Goals as goal

@@ -1,4 +1,4 @@
-use Rattle.std.proofs.Common.{◌≡◌, ◌+◌, ◌-◌, ◌<◌, refl, rules, arith}
+use Rattle.std.proofs.Common.{◌+◌, ◌-◌, ◌<◌, arith}
 use Rattle.json_model.specs.Spelled.{count}
 use Rattle.subdoc_edit.proofs.Placed.{from_within, among, part_there, end_none, end_some}
 use Rattle.subdoc_edit.proofs.places.end_of.Goals as goal

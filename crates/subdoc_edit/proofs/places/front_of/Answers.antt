@@ -1,5 +1,5 @@
 use Rattle.std.proofs.Common.{◌+◌, arith}
-use Rattle.subdoc_edit.proofs.Placed.{from_within, among, part_there, front_none, front_some, first_there}
+use Rattle.subdoc_edit.proofs.Placed.{from_within, among, front_none, front_some, first_there}
 use Rattle.subdoc_edit.proofs.places.front_of.Goals as goal
 
 pub returns-then-node-eq0 : goal.returns-then-node-eq0

@@ -2,7 +2,7 @@ use Rattle.std.proofs.Common.{◌≡◌, ◌<◌, true, false, sym, ◌∙◌, a
 use Rattle.json_model.specs.Spelled.{count}
 use Rattle.subdoc_edit.specs.Kinds.{holds_others}
 use Rattle.subdoc_edit.proofs.Pieces.{says}
-use Rattle.subdoc_edit.proofs.Rest.{Rest, rest_none, rest_all, rest_there, rest_front, rest_more, leaves, leaf_is, leaf_not, leaves_skip, leaves_stop}
+use Rattle.subdoc_edit.proofs.Rest.{rest_none, rest_all, rest_there, rest_front, rest_more, leaves, leaf_is, leaf_not, leaves_skip, leaves_stop}
 use Rattle.subdoc_edit.proofs.walking.are_leaves.Goals as goal
 
 pub loop-passed-init : goal.loop-passed-init

@@ -2,7 +2,7 @@ use Rattle.std.proofs.Common.{◌≡◌, ◌<◌, ℕ, nat_eq, List, true, false
 use Rattle.std.specs.Cmp.Lexicographic.{pointwise}
 use Rattle.json_model.specs.Spelled.{count}
 use Rattle.subdoc_edit.proofs.Pieces.{says, slice_of}
-use Rattle.subdoc_edit.proofs.Rest.{Rest, rest_none, rest_all, rest_there, rest_front, rest_more, texts, texts_skip, texts_stop}
+use Rattle.subdoc_edit.proofs.Rest.{rest_none, rest_all, rest_there, rest_front, rest_more, texts, texts_skip, texts_stop}
 use Rattle.subdoc_edit.proofs.walking.has_text.Goals as goal
 
 pub loop-passed-init : goal.loop-passed-init
