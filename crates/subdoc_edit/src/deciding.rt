@@ -9,7 +9,9 @@ ghost use Rattle.json_spell.specs.declared.node.Span.{Span};
 ghost use Rattle.json_spell.specs.Places.{Spans as AreSpans};
 ghost use Rattle.subdoc_path.specs.Standing.{Stands, IsStanding};
 ghost use Rattle.subdoc_edit.specs.Given.{IsCutOut, IsGiven};
-ghost use Rattle.subdoc_edit.specs.Planning.{FoundDecides, MissedDecides, IsFound, IsMissed, TellsArray, TellsSet, MakesMember, TellsIndex, DecidesGiven};
+ghost use Rattle.subdoc_edit.specs.Planning.{FoundDecides, MissedDecides, IsFound, IsMissed};
+ghost use Rattle.subdoc_edit.specs.Planning.{TellsArray, TellsSet, MakesMember, TellsIndex};
+ghost use Rattle.subdoc_edit.specs.Planning.{DecidesGiven};
 
 use crate::numbers::counter_at;
 use crate::parents::around_of;
@@ -36,8 +38,10 @@ fn replace(
 ) -> Result<Plan, Refused>
     requires found { IsFound text.now nodes.now parts.now at }
     requires few { length parts.now ≤ PARTS_LIMIT }
-    ensures upserts { FoundDecides edits.DictUpsert text.now value.now nodes.now parts.now at given result }
-    ensures replaces { FoundDecides edits.Replace text.now value.now nodes.now parts.now at given result }
+    ensures upserts { FoundDecides edits.DictUpsert text.now value.now nodes.now parts.now at given
+        result }
+    ensures replaces { FoundDecides edits.Replace text.now value.now nodes.now parts.now at given
+        result }
 {
     let content = Content {
         from: given.from,
@@ -74,7 +78,8 @@ fn delete(
 /// Whether the value at `at` is an array.
 fn is_array(text: &[u8], nodes: &[Node], at: usize) -> bool
     requires { IsStanding text.now nodes.now at }
-    ensures { (place : ℕ) (key : Span) (t : Tree) → Stands text.now nodes.now place at key t → Fits t → TellsArray t result }
+    ensures { (place : ℕ) (key : Span) (t : Tree) → Stands text.now nodes.now place at key t
+        → Fits t → TellsArray t result }
 {
     match node_at(text, nodes, at).kind {
         Kind::Array => true,
@@ -94,7 +99,8 @@ fn push_last(
 ) -> Result<Plan, Refused>
     requires found { IsFound text.now nodes.now parts.now at }
     requires few { length parts.now ≤ PARTS_LIMIT }
-    ensures { FoundDecides edits.ArrayPushLast text.now value.now nodes.now parts.now at given result }
+    ensures { FoundDecides edits.ArrayPushLast text.now value.now nodes.now parts.now at given
+        result }
 {
     if !is_array(text, nodes, at) {
         return Err(Refused::Status(Status::PATH_MISMATCH));
@@ -115,7 +121,8 @@ fn push_first(
 ) -> Result<Plan, Refused>
     requires found { IsFound text.now nodes.now parts.now at }
     requires few { length parts.now ≤ PARTS_LIMIT }
-    ensures { FoundDecides edits.ArrayPushFirst text.now value.now nodes.now parts.now at given result }
+    ensures { FoundDecides edits.ArrayPushFirst text.now value.now nodes.now parts.now at given
+        result }
 {
     if !is_array(text, nodes, at) {
         return Err(Refused::Status(Status::PATH_MISMATCH));
@@ -137,7 +144,8 @@ fn insert(
     requires found { IsFound text.now nodes.now parts.now at }
     requires few { length parts.now ≤ PARTS_LIMIT }
     requires form { ends_in_index parts.now ≡ true }
-    ensures { FoundDecides edits.ArrayInsert text.now value.now nodes.now parts.now at given result }
+    ensures { FoundDecides edits.ArrayInsert text.now value.now nodes.now parts.now at given
+        result }
 {
     let plan = insert_at(alloc, text, nodes, at, parts.len(), value, given)?;
     Ok(plan)
@@ -147,7 +155,8 @@ fn insert(
 /// holds objects or arrays, or one that has it.
 fn set_fault(text: &[u8], nodes: &[Node], at: usize, wanted: &[u8]) -> Option<Status>
     requires { IsStanding text.now nodes.now at }
-    ensures { (place : ℕ) (key : Span) (t : Tree) → Stands text.now nodes.now place at key t → Fits t → TellsSet t wanted.now result }
+    ensures { (place : ℕ) (key : Span) (t : Tree) → Stands text.now nodes.now place at key t
+        → Fits t → TellsSet t wanted.now result }
 {
     let node = node_at(text, nodes, at);
     if node.kind != Kind::Array {
@@ -178,7 +187,8 @@ fn add_unique(
     requires found { IsFound text.now nodes.now parts.now at }
     requires few { length parts.now ≤ PARTS_LIMIT }
     requires within { IsCutOut value.now given }
-    ensures { FoundDecides edits.ArrayAddUnique text.now value.now nodes.now parts.now at given result }
+    ensures { FoundDecides edits.ArrayAddUnique text.now value.now nodes.now parts.now at given
+        result }
 {
     match set_fault(text, nodes, at, cut(value, given.from, given.to)) {
         Some(status) => return Err(Refused::Status(status)),
@@ -260,7 +270,8 @@ fn make(
 ) -> Result<Plan, Refused>
     requires missed { IsMissed text.now spans.now parts.now followed }
     requires few { length parts.now ≤ PARTS_LIMIT }
-    ensures { MakesMember one several text.now value.now spans.now parts.now followed content result }
+    ensures { MakesMember one several text.now value.now spans.now parts.now followed content
+        result }
 {
     let (front, absent) = parts.split_at(followed);
     if !may_make(one, several, absent.len()) {
@@ -311,7 +322,8 @@ fn insert_last(
 ) -> Result<Plan, Refused>
     requires missed { IsMissed text.now spans.now parts.now followed }
     requires few { length parts.now ≤ PARTS_LIMIT }
-    ensures { MissedDecides edits.ArrayInsert several text.now value.now spans.now parts.now followed given result }
+    ensures { MissedDecides edits.ArrayInsert several text.now value.now spans.now parts.now
+        followed given result }
 {
     let (front, absent) = parts.split_at(followed);
     let number = match lone_index(absent) {
@@ -343,8 +355,10 @@ fn make_value(
 ) -> Result<Plan, Refused>
     requires missed { IsMissed text.now spans.now parts.now followed }
     requires few { length parts.now ≤ PARTS_LIMIT }
-    ensures adds { MissedDecides edits.DictAdd several text.now value.now spans.now parts.now followed given result }
-    ensures upserts { MissedDecides edits.DictUpsert several text.now value.now spans.now parts.now followed given result }
+    ensures adds { MissedDecides edits.DictAdd several text.now value.now spans.now parts.now
+        followed given result }
+    ensures upserts { MissedDecides edits.DictUpsert several text.now value.now spans.now parts.now
+        followed given result }
 {
     let content = Content {
         from: given.from,
@@ -372,9 +386,12 @@ fn make_array(
     requires missed { IsMissed text.now spans.now parts.now followed }
     requires few { length parts.now ≤ PARTS_LIMIT }
     requires shallow { given.depth ≤ MOST_DEEP }
-    ensures last { MissedDecides edits.ArrayPushLast several text.now value.now spans.now parts.now followed given result }
-    ensures first { MissedDecides edits.ArrayPushFirst several text.now value.now spans.now parts.now followed given result }
-    ensures unique { MissedDecides edits.ArrayAddUnique several text.now value.now spans.now parts.now followed given result }
+    ensures last { MissedDecides edits.ArrayPushLast several text.now value.now spans.now parts.now
+        followed given result }
+    ensures first { MissedDecides edits.ArrayPushFirst several text.now value.now spans.now
+        parts.now followed given result }
+    ensures unique { MissedDecides edits.ArrayAddUnique several text.now value.now spans.now
+        parts.now followed given result }
 {
     let content = Content {
         from: given.from,
@@ -401,7 +418,8 @@ fn make_counter(
 ) -> Result<Plan, Refused>
     requires missed { IsMissed text.now spans.now parts.now followed }
     requires few { length parts.now ≤ PARTS_LIMIT }
-    ensures { MissedDecides edits.Counter several text.now value.now spans.now parts.now followed given result }
+    ensures { MissedDecides edits.Counter several text.now value.now spans.now parts.now followed
+        given result }
 {
     let content = Content {
         from: 0,
@@ -430,7 +448,8 @@ fn at_gap(
     requires missed { IsMissed text.now spans.now parts.now followed }
     requires few { length parts.now ≤ PARTS_LIMIT }
     requires read { IsGiven edit value.now given }
-    ensures { MissedDecides edit several text.now value.now spans.now parts.now followed given result }
+    ensures { MissedDecides edit several text.now value.now spans.now parts.now followed given
+        result }
 {
     match edit {
         Edit::DictAdd => make_value(alloc, several, text, spans, parts, followed, value, given),
@@ -468,7 +487,8 @@ pub fn decide(
     requires few { length parts.now ≤ PARTS_LIMIT }
     requires form { takes edit parts.now ≡ true }
     requires read { IsGiven edit value.now given }
-    ensures { (d : Document) → IsText most_deep d text.now → DecidesGiven edit several text.now value.now parts.now given d result }
+    ensures { (d : Document) → IsText most_deep d text.now
+        → DecidesGiven edit several text.now value.now parts.now given d result }
 {
     match find_parts(text, spans, parts) {
         Found::At(at) => at_value(alloc, edit, text, spans, parts, at, value, given),

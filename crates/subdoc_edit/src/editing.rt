@@ -1,6 +1,7 @@
 //! Edits.
 
-ghost use Rattle.std.specs.Prelude.{◌≡◌, ℕ, ◌+◌, ◌-◌, ◌^◌, min, List, ◌++◌, ◌≤◌, length, take, drop, IsSome, IfOk, Err};
+ghost use Rattle.std.specs.Prelude.{◌≡◌, ℕ, ◌+◌, ◌-◌, ◌^◌, min, List, ◌++◌, ◌≤◌, length, take};
+ghost use Rattle.std.specs.Prelude.{drop, IsSome, IfOk, Err};
 ghost use Rattle.doc_model.specs.declared.status.Status.{Status};
 ghost use Rattle.json_model.specs.Edit.{edit_of};
 ghost use Rattle.json_model.specs.Order.{takes, ends_in_name, ends_in_index};
@@ -87,12 +88,14 @@ fn takes(edit: Edit, parts: &[Part]) -> bool
     }
 }
 
-/// How many bytes the text has that a plan leaves; of more than can be counted, the greatest number.
+/// How many bytes the text has that a plan leaves; of more than can be counted, the greatest
+/// number.
 fn size_of(text: &[u8], plan: &Plan) -> usize
     requires ordered { plan.now.from ≤ plan.now.to }
     requires within { plan.now.to ≤ length text.now }
     requires cut { plan.now.value_from ≤ plan.now.value_to }
-    ensures { result ≡ min (plan.now.from + (length text.now - plan.now.to) + (plan.now.value_to - plan.now.value_from) + (length plan.now.before + length plan.now.behind)) (2 ^ 64 - 1) }
+    ensures { result ≡ min (plan.now.from + (length text.now - plan.now.to) + (plan.now.value_to -
+        plan.now.value_from) + (length plan.now.before + length plan.now.behind)) (2 ^ 64 - 1) }
 {
     let kept = plan.from.saturating_add(text.len() - plan.to);
     let new = plan.value_to - plan.value_from;
@@ -112,7 +115,8 @@ fn written(
     requires within { plan.now.to ≤ length text.now }
     requires cut_ordered { plan.now.value_from ≤ plan.now.value_to }
     requires cut_within { plan.now.value_to ≤ length value.now }
-    ensures { IfOk result (λ bytes. bytes ≡ take plan.now.from text.now ++ (plan_bytes value.now plan.now ++ drop plan.now.to text.now)) }
+    ensures { IfOk result (λ bytes. bytes ≡ take plan.now.from text.now
+        ++ (plan_bytes value.now plan.now ++ drop plan.now.to text.now)) }
 {
     let (front, _) = text.split_at(plan.from);
     let (_, back) = text.split_at(plan.to);
@@ -128,7 +132,9 @@ fn written(
 /// What a plan leaves, where it isn't too deep and hasn't too many bytes.
 fn finish(alloc: Global, text: &[u8], value: &[u8], plan: Plan) -> Result<Edited, Refused>
     requires { IsPlanned text.now value.now plan }
-    ensures { (d : Document) (trail : List ℕ) (change : Change) → Plans text.now value.now d trail change plan → Finishes d trail change plan.number result }
+    ensures { (d : Document) (trail : List ℕ) (change : Change)
+        → Plans text.now value.now d trail change plan
+        → Finishes d trail change plan.number result }
 {
     if plan.depth > MOST_DEEP as usize {
         return Err(Refused::Status(Status::VALUE_ETOODEEP));
@@ -174,7 +180,26 @@ fn edit_at(
     finish(alloc, text, value, plan)
 }
 
-/// Edits a JSON text at a path.
+/// Edits a JSON text at a path: `opcode` is that of a sub-document edit, c7 to cf, and bit 01 of
+/// `flags` lets any number of names at the end of the path be absent, and makes them. The text that
+/// is left is new, and differs from the old one in one splice alone; beside it a counter tells the
+/// number that it has come to.
+///
+/// It is refused with the first of these that applies, and nothing is left then:
+///
+/// - 00c2 and 00c3 where the path isn't one, 00c6 where the text isn't JSON, 00c4 where it nests
+///   deeper than 32, 00c2 where the edit takes no path of that form;
+/// - 00c5 where the edit doesn't take the value, 00c8 where a counter's delta isn't one, 00ca where
+///   one of several values nests too deep;
+/// - 00c1 where the path meets another kind of value than it asks for, or the value there is of
+///   another kind than the edit is for;
+/// - 00c0 where the path leads nowhere and nothing may be made there, 00c9 where there is already
+///   what is to be added;
+/// - 00c7 where a counter is beyond 64 bits with a sign, 00c5 where it would come beyond them;
+/// - 00ca where the result would nest deeper than 32, 0003 where it would have more than 20,971,520
+///   bytes.
+///
+/// Want of memory is told apart from these, at any point.
 pub fn edit(
     alloc: Global,
     opcode: u8,
@@ -185,7 +210,8 @@ pub fn edit(
 ) -> Result<Edited, Refused>
     requires { IsSome (edit_of opcode) }
     ensures edited { IfOk result (λ e. Makes opcode flags text.now path.now value.now e) }
-    ensures refused { (s : Status) → result ≡ Err (Refused.Status s) → RefusesEdit opcode flags text.now path.now value.now s }
+    ensures refused { (s : Status) → result ≡ Err (Refused.Status s)
+        → RefusesEdit opcode flags text.now path.now value.now s }
 {
     match edit_of(opcode) {
         Some(edit) => edit_at(alloc, edit, flags % 2 == 1, text, path, value),

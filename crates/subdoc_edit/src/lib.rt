@@ -12,14 +12,14 @@
 //! | c5 | Get | finds a value's text | any | |
 //! | c6 | Exists | finds out whether there is a value | any | |
 //! | d2 | Get count | counts members or elements | any | |
-//! | c7 | Dictionary add | adds a member, where there is none of its name | ends in a name | one text |
-//! | c8 | Dictionary upsert | replaces a member's value, or adds the member | ends in a name | one text |
+//! | c7 | Dictionary add | adds a member where none has its name | ends in a name | one text |
+//! | c8 | Dictionary upsert | replaces a member's value or adds it | ends in a name | one text |
 //! | c9 | Delete | removes a member or an element | has a part | ignored |
 //! | ca | Replace | replaces a value | any | one text |
 //! | cb | Array push last | puts elements behind the last one | any | one text or several |
 //! | cc | Array push first | puts elements before the first one | any | one text or several |
-//! | cd | Array insert | puts elements before the one of an index | ends in an index other than -1 | one text or several |
-//! | ce | Array add unique | adds an element whose text no other has | any | a text without brackets |
+//! | cd | Array insert | puts them before one | ends in an index but -1 | one text or several |
+//! | ce | Array add unique | adds an element of a text that none has | any | one text of no parts |
 //! | cf | Counter | counts a whole number up or down | any | a delta |
 //!
 //! Several texts are parted by commas, as between the brackets of an array. Blanks at both ends of
@@ -46,9 +46,13 @@
 //! | 00c6 | a text that isn't JSON |
 //! | 00c4 | a text that nests deeper than 32 |
 //! | 00c2 | a path of another form than the edit takes |
-//! | 00c5, 00c8, 00ca | a value that the edit doesn't take, a delta that isn't one, several texts of which one nests too deep |
-//! | 00c1 | a name where there is no object, an index where there is no array, elements where there is no array, a count of what has no parts, a counter that is no whole number, an object or an array among the elements of a set |
-//! | 00c0 | a name or an index of nothing that is there |
+//! | 00c5 | a value that the edit doesn't take |
+//! | 00c8 | a delta that isn't one |
+//! | 00ca | several texts of which one nests too deep |
+//! | 00c1 | a name where there is no object, an index where there is no array |
+//! | 00c1 | new elements where there is no array, a count where there are no parts to count |
+//! | 00c1 | a counter that is no whole number, a set that holds an object or an array |
+//! | 00c0 | a name or an index of nothing that is there, or that can be made |
 //! | 00c9 | a member that is there already, an element that the set has |
 //! | 00c7 | a counter that is there and beyond 64 bits with a sign |
 //! | 00c5 | a counter that would pass 64 bits with a sign |

@@ -25,7 +25,8 @@ pub struct Piece {
     pub from: usize,
     /// The place behind its last byte.
     pub to: usize,
-    /// The number of members or elements, where that was asked: its decimal text is the answer then.
+    /// The number of members or elements, where that was asked: its decimal text is the answer
+    /// then.
     pub count: Option<u64>,
 }
 
@@ -44,7 +45,8 @@ pub fn lookup_of(opcode: u8) -> Option<Lookup>
 /// What a look-up finds in the value at this place in the list.
 fn looked(lookup: Lookup, text: &[u8], nodes: &[Node], at: usize) -> Result<Piece, Refused>
     requires { IsStanding text.now nodes.now at }
-    ensures { (place : ℕ) (key : Span) (t : Tree) → Stands text.now nodes.now place at key t → Fits t → TellsLooked lookup text.now t result }
+    ensures { (place : ℕ) (key : Span) (t : Tree) → Stands text.now nodes.now place at key t
+        → Fits t → TellsLooked lookup text.now t result }
 {
     let node = match nodes.get(at) {
         Some(node) => *node,
@@ -98,7 +100,8 @@ fn look_at(alloc: Global, lookup: Lookup, text: &[u8], path: &[u8]) -> Result<Pi
 pub fn look(alloc: Global, opcode: u8, text: &[u8], path: &[u8]) -> Result<Piece, Refused>
     requires { IsSome (lookup_of opcode) }
     ensures found { IfOk result (λ piece. Finds opcode text.now path.now piece) }
-    ensures refused { (s : Status) → result ≡ Err (Refused.Status s) → RefusesLook opcode text.now path.now s }
+    ensures refused { (s : Status) → result ≡ Err (Refused.Status s)
+        → RefusesLook opcode text.now path.now s }
 {
     match lookup_of(opcode) {
         Some(lookup) => look_at(alloc, lookup, text, path),

@@ -75,7 +75,8 @@ fn whole_of(bytes: &[u8]) -> Whole
     }
 }
 
-/// The number at `at`, to which so many parts of a path lead, counted up by the delta that was given.
+/// The number at `at`, to which so many parts of a path lead, counted up by the delta that was
+/// given.
 pub fn counter_at(
     alloc: Global,
     text: &[u8],

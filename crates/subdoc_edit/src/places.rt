@@ -67,8 +67,8 @@ fn start_of(whole: Kind, node: Node) -> usize
     }
 }
 
-/// The bytes that go with a part of the value at `whole`, whose own value is at `at`: up to the next
-/// part; of the last one, from the end of the one before it on; of the only one, its own.
+/// The bytes that go with a part of the value at `whole`, whose own value is at `at`: up to the
+/// next part; of the last one, from the end of the one before it on; of the only one, its own.
 pub fn cut_of(text: &[u8], nodes: &[Node], whole: usize, at: usize) -> Span
     requires { IsPartOf text.now nodes.now whole at }
     ensures { CutsAt text.now nodes.now whole at result }

@@ -3,7 +3,9 @@
 ghost use Rattle.std.specs.Prelude.{◌≡◌, ◌≤◌, ◌++◌, false, IfOk};
 ghost use Rattle.subdoc_path.specs.Standing.{IsStanding};
 ghost use Rattle.subdoc_edit.specs.Splicing.{comma_if, IsPartOf};
-ghost use Rattle.subdoc_edit.specs.Planning.{PlansPut, PlansPush, PlansFront, PlansInsert, PlansRemove, PlansMember, bracket_before, bracket_behind};
+ghost use Rattle.subdoc_edit.specs.Planning.{PlansPut, PlansPush, PlansFront, PlansInsert};
+ghost use Rattle.subdoc_edit.specs.Planning.{PlansRemove, PlansMember, bracket_before};
+ghost use Rattle.subdoc_edit.specs.Planning.{bracket_behind};
 
 use crate::parents::Around;
 use crate::places::{cut_of, end_of, front_of};
@@ -207,7 +209,8 @@ fn before_new(
     around: &Around,
     listed: bool,
 ) -> Result<Bytes, NoMemory>
-    ensures { IfOk result (λ b. b ≡ comma_if with_comma ++ (around.now.before ++ bracket_before listed)) }
+    ensures { IfOk result (λ b. b ≡ comma_if with_comma ++ (around.now.before
+        ++ bracket_before listed)) }
 {
     let mut bytes = Vec::new(alloc);
     if with_comma {
@@ -245,7 +248,8 @@ pub fn member_at(
 ) -> Result<Plan, NoMemory>
     requires stands { IsStanding text.now nodes.now at }
     requires few { total ≤ PARTS_LIMIT }
-    ensures plan { IfOk result (λ p. PlansMember text.now value.now nodes.now at total around.now content p) }
+    ensures plan { IfOk result (λ p. PlansMember text.now value.now nodes.now at total around.now
+        content p) }
     ensures number { IfOk result (λ p. p.number ≡ content.number) }
 {
     let gap = end_of(text, nodes, at);

@@ -13,7 +13,8 @@ use subdoc_path::{Path, PathFault, read_path};
 
 /// The path of these bytes.
 pub fn path_of(alloc: Global, bytes: &[u8]) -> Result<Path, Refused>
-    ensures { Told (λ path. ReadsPath bytes.now (Ok path)) (λ s. ReadsPath bytes.now (Err s)) result }
+    ensures { Told (λ path. ReadsPath bytes.now (Ok path)) (λ s. ReadsPath bytes.now (Err s))
+        result }
 {
     match read_path(alloc, bytes) {
         Ok(path) => Ok(path),
