@@ -1,6 +1,7 @@
 //! Whole numbers, and counters.
 
-ghost use Rattle.std.specs.Prelude.{◌≡◌, ◌≤◌, IfOk};
+ghost use Rattle.std.specs.Prelude.{◌≡◌, ◌≤◌, ◌+ℤ◌, IfOk, FitsSigned, SomeIff};
+ghost use Rattle.std.specs.Int.{w64};
 ghost use Rattle.std.specs.List.{list_all};
 ghost use Rattle.json_model.specs.Grammar.{IsNumber};
 ghost use Rattle.json_model.specs.Edit.{is_digit, magnitude};
@@ -99,10 +100,17 @@ pub fn counter_at(
         Whole::Large => return Err(Refused::Status(Status::NUM_ERANGE)),
         Whole::Not => return Err(Refused::Status(Status::PATH_MISMATCH)),
     };
-    match old.checked_add(given.delta) {
+    match sum(old, given.delta) {
         Some(number) => Ok(number_plan(alloc, node, followed, number)?),
         None => Err(Refused::Status(Status::VALUE_CANT_INSERT)),
     }
+}
+
+/// A number and a delta together, where that is a number of 64 bits with a sign.
+fn sum(number: i64, delta: i64) -> Option<i64>
+    ensures { SomeIff result (FitsSigned w64 (number +ℤ delta)) (number +ℤ delta) }
+{
+    number.checked_add(delta)
 }
 
 /// A number in place of a value.
