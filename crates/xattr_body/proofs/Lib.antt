@@ -1,0 +1,7 @@
+pub mod Depth
+pub mod Names
+pub mod Pairs
+pub mod Going
+pub mod Sections
+pub mod Changes
+pub mod Places

@@ -1,0 +1,5 @@
+pub mod Section
+pub mod Faults
+pub mod Fields
+pub mod Edits
+pub mod Equal
