@@ -1,0 +1,4 @@
+pub mod Shorter
+pub mod Strings
+pub mod Words
+pub mod Passing
