@@ -2,3 +2,4 @@ pub mod Shorter
 pub mod Strings
 pub mod Words
 pub mod Passing
+pub mod Standing

@@ -8,6 +8,7 @@ use Rattle.json_model.specs.declared.kinds.Shape.{Shape}
 use Rattle.json_model.specs.declared.kinds.Shape.TheVariants as shapes
 use Rattle.json_model.specs.Grammar.{IsBlank, AreBlanks, IsString, IsNumber, IsLeaf}
 use Rattle.json_model.specs.Spelled.{Head, plain, keyed, Tree, leaf, empty, group, Parts, last, more, opening, closing, head_text, text, parts_text, HeadFits, Fits, PartsFit}
+use Rattle.json_spell.proofs.Again.{leaf_first}
 use Rattle.json_walk.specs.Stepping.{opens, closes, ends_word, behind_word, behind_string, closed_at, behind_value}
 use Rattle.json_walk.specs.Places.{Ends}
 use Rattle.json_walk.proofs.Strings.{Quoted, string_quoted, string_whole}
@@ -162,3 +163,12 @@ group_behind shape s rest p =
 leaf_behind : (s rest : List ℕ) → Quoted s ⊎ AreInner s → 1 ≤ length s → Ends rest → behind_value (s ++ rest) ≡ rest
 leaf_behind s rest (inl q) some e = quoted_behind s rest q
 leaf_behind s rest (inr f) some e = inner_behind s rest f some e
+
+leaf_some : (kind : Kind) (s : List ℕ) → IsLeaf kind s → 1 ≤ length s
+leaf_some kind s f = let first = leaf_first kind s f in omega (arith, ap (λ (l : List ℕ). length l) first.whole)
+
+-- the bytes behind a value are those behind its text
+pub value_behind : (t : Tree) (rest : List ℕ) → Fits t → Ends rest → behind_value (text t ++ rest) ≡ rest
+value_behind (leaf kind s) rest f e = leaf_behind s rest (leaf_cases kind s f) (leaf_some kind s f) e
+value_behind (empty shape gap) rest f e = group_behind shape gap rest (passes_blanks gap f)
+value_behind (group shape ps) rest f e = group_behind shape (parts_text ps) rest (parts_pass ps shape f)

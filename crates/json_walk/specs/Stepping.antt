@@ -1,5 +1,5 @@
 -- Stepping over values of a text that is known to be JSON: what is left of the bytes.
-use Rattle.std.specs.Prelude.{ℕ, ◌+◌, ◌-◌, List, [], ◌∷◌, drop, Bool, ◌==◌, ◌||◌, if◌then◌else◌}
+use Rattle.std.specs.Prelude.{ℕ, ◌+◌, ◌-◌, List, [], ◌∷◌, drop, Bool, false, Option, Some, None, ◌==◌, ◌||◌, if◌then◌else◌}
 use Rattle.json_model.specs.declared.kinds.Shape.{Shape}
 use Rattle.json_model.specs.declared.kinds.Shape.TheVariants as shapes
 use Rattle.json_spell.specs.Tokens.{is_blank, behind_gap}
@@ -66,3 +66,13 @@ behind_key shapes.Array bytes = bytes
 abbrev pub behind_colon : Shape → List ℕ → List ℕ
 behind_colon shapes.Object bytes = behind_gap (drop 1 (behind_gap bytes))
 behind_colon shapes.Array bytes = bytes
+
+-- whether a closing bracket is first
+abbrev pub is_closed : List ℕ → Bool
+is_closed [] = false
+is_closed (x ∷ xs) = closes x
+
+-- the shape of a value that begins with this byte, where no closing bracket follows
+abbrev pub shape_told : ℕ → List ℕ → Option Shape
+shape_told x xs =
+    if is_closed (behind_gap xs) then None else if x == 0x7b then Some shapes.Object else if x == 0x5b then Some shapes.Array else None

@@ -13,11 +13,22 @@ tree_kind (leaf kind s) = kind
 tree_kind (empty shape gap) = kind_of shape
 tree_kind (group shape ps) = kind_of shape
 
+-- the place behind a value that stands at this one
+abbrev pub tree_end : ℕ → Tree → ℕ
+tree_end at t = at + length (text t)
+
 -- the shape of a value that holds parts
 abbrev pub filled : Tree → Option Shape
 filled (leaf kind s) = None
 filled (empty shape gap) = None
 filled (group shape ps) = Some shape
+
+-- the places of a part are in order, and lie from one place on up to another
+pub record LiesWithin (least most : ℕ) (p : PartAt) : Type 0 where
+  pub low : least ≤ p.start
+  pub keyed : p.start ≤ p.key_to
+  pub valued : p.key_to ≤ p.value
+  pub high : p.value ≤ most
 
 -- ---- the first of some parts
 
