@@ -3,3 +3,5 @@ pub mod Strings
 pub mod Words
 pub mod Passing
 pub mod Standing
+pub mod Heads
+pub mod Further

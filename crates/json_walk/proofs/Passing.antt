@@ -97,7 +97,7 @@ null_inner : AreInner (codes "null")
 null_inner = (record { goes_on = refl; mark = refl; opening = refl; closing = refl }, (record { goes_on = refl; mark = refl; opening = refl; closing = refl }, (record { goes_on = refl; mark = refl; opening = refl; closing = refl }, (record { goes_on = refl; mark = refl; opening = refl; closing = refl }, tt))))
 
 -- a leaf is a string, or of bytes within a number or a word
-leaf_cases : (kind : Kind) (s : List ℕ) → IsLeaf kind s → Quoted s ⊎ AreInner s
+pub leaf_cases : (kind : Kind) (s : List ℕ) → IsLeaf kind s → Quoted s ⊎ AreInner s
 leaf_cases kinds.Object s f = absurd f
 leaf_cases kinds.Array s f = absurd f
 leaf_cases kinds.Text s f = inl (string_quoted s f)

@@ -42,7 +42,7 @@ value_left bytes at t s = ap (drop at) s.spelled ∙ drop_at s.front (text t ++ 
 pub value_text : (bytes : List ℕ) (at : ℕ) (t : Tree) → IsAt bytes at t → take (length (text t)) (drop at bytes) ≡ text t
 value_text bytes at t s = ap (take (length (text t))) (value_left bytes at t s) ∙ take_at (text t) s.back (length (text t)) refl
 
-parts_left : (bytes : List ℕ) (at : ℕ) (shape : Shape) (ps : Parts) (s : ArePartsAt bytes at shape ps) → drop at bytes ≡ parts_text ps ++ closing shape ∷ s.back
+pub parts_left : (bytes : List ℕ) (at : ℕ) (shape : Shape) (ps : Parts) (s : ArePartsAt bytes at shape ps) → drop at bytes ≡ parts_text ps ++ closing shape ∷ s.back
 parts_left bytes at shape ps s = ap (drop at) s.spelled ∙ drop_at s.front (parts_text ps ++ closing shape ∷ s.back) at s.at_is
 
 -- parts stand within the text

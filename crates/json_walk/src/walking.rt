@@ -71,8 +71,14 @@ pub fn next_part(text: &[u8], shape: Shape, end: usize) -> Option<PartAt>
 {
     let (_, bytes) = text.split_at(end);
     match skip_blanks(bytes) {
-        [b',', rest @ ..] => Some(part_from(text, shape, text.len() - rest.len())),
-        _ => None,
+        [] => None,
+        [byte, rest @ ..] => {
+            if *byte == b',' {
+                Some(part_from(text, shape, text.len() - rest.len()))
+            } else {
+                None
+            }
+        }
     }
 }
 
