@@ -1,5 +1,6 @@
 -- From part to part.
 use Rattle.std.proofs.Common.{◌≡◌, ◌≢◌, ℕ, zero, suc, ◌+◌, ◌-◌, ◌<◌, ◌≤◌, List, [], ◌∷◌, ◌++◌, length, take, drop, get_or, Some, None, Option, unwrap_or, refl, sym, ap, subst, ◌∙◌, arith, append_assoc, length-append, length-drop}
+use Rattle.std.specs.Prelude.{IfSome}
 use Rattle.std.proofs.lemmas.List.{take_all, drop_at}
 use Rattle.json_model.specs.declared.kinds.Shape.{Shape}
 use Rattle.json_model.specs.declared.kinds.Shape.TheVariants as shapes
@@ -210,3 +211,25 @@ going_done bytes shape from ps number end g step = by_left g.left g.end_is g.cou
     by_left : (left : Parts) → end ≡ end_at g.at left → number + count left ≡ count ps + 1 → last_end_at g.at left ≡ last_end_at from ps → None ≡ told (parts_behind g.at left) → (number ≡ count ps) × (end ≡ last_end_at from ps)
     by_left (last h t gap) end_is counted last_is e = (omega (arith, counted), end_is ∙ last_is)
     by_left (more h t gap rest) end_is counted last_is e = cc
+
+-- ---- where nothing is held
+
+pub no_children : (t : Tree) → None ≡ filled t → 0 ≡ children t
+no_children (leaf kind s) e = refl
+no_children (empty shape gap) e = refl
+no_children (group shape ps) e = cc
+
+pub no_last : (t : Tree) (at : ℕ) → None ≡ filled t → None ≡ last_end_of at t
+no_last (leaf kind s) at e = refl
+no_last (empty shape gap) at e = refl
+no_last (group shape ps) at e = cc
+
+-- ---- bounds of a part that may be there
+
+pub lies_of : (found : Option PartAt) (p : PartAt) (least most : ℕ) → found ≡ Some p → IfSome found (λ q. LiesWithin least most q) → LiesWithin least most p
+lies_of None p least most e h = cc
+lies_of (Some q) p least most e h = let same : q ≡ p = cc in subst (λ x. LiesWithin least most x) same h
+
+pub lies_lower : (found : Option PartAt) (least lower most : ℕ) → lower ≤ least → IfSome found (λ q. LiesWithin least most q) → IfSome found (λ q. LiesWithin lower most q)
+lies_lower None least lower most l h = h
+lies_lower (Some q) least lower most l h = record { low = omega (arith, h.low); keyed = h.keyed; valued = h.valued; high = h.high }
