@@ -113,7 +113,7 @@ holds bytes at shape (group other ps) i e =
 -- ---- the part of a number
 
 -- parts of a number, where there are some, stand in the text
-there_from : (bytes : List ℕ) (shape : Shape) (k at : ℕ) (ps : Parts) (from : ℕ) (left : Parts) → ArePartsAt bytes at shape ps → parts_from k at ps ≡ Some (from, left) → ArePartsAt bytes from shape left
+pub there_from : (bytes : List ℕ) (shape : Shape) (k at : ℕ) (ps : Parts) (from : ℕ) (left : Parts) → ArePartsAt bytes at shape ps → parts_from k at ps ≡ Some (from, left) → ArePartsAt bytes from shape left
 there_from bytes shape zero at ps from left s e =
     let same : at ≡ from = ap (λ (o : Option (ℕ × Parts)). (unwrap_or o (at, ps)).0) e in
     let same2 : ps ≡ left = ap (λ (o : Option (ℕ × Parts)). (unwrap_or o (at, ps)).1) e in
@@ -121,7 +121,7 @@ there_from bytes shape zero at ps from left s e =
 there_from bytes shape (suc k) at (last h t g) from left s e = cc
 there_from bytes shape (suc k) at (more h t g ps) from left s e = there_from bytes shape k (end_at at (more h t g ps) + length g + 1) ps from left (behind_comma bytes at shape h t g ps s) e
 
-from_some : (k at : ℕ) (ps : Parts) (from : ℕ) (left : Parts) → parts_from k at ps ≡ Some (from, left) → parts_from (suc k) at ps ≡ parts_behind from left
+pub from_some : (k at : ℕ) (ps : Parts) (from : ℕ) (left : Parts) → parts_from k at ps ≡ Some (from, left) → parts_from (suc k) at ps ≡ parts_behind from left
 from_some zero at (last h t g) from left e =
     let same : at ≡ from = ap (λ (o : Option (ℕ × Parts)). (unwrap_or o (at, last h t g)).0) e in
     let same2 : last h t g ≡ left = ap (λ (o : Option (ℕ × Parts)). (unwrap_or o (at, last h t g)).1) e in

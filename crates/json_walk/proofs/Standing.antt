@@ -4,11 +4,12 @@ use Rattle.std.proofs.lemmas.List.{drop_at, take_at}
 use Rattle.json_model.specs.declared.kinds.Shape.{Shape}
 use Rattle.json_model.specs.declared.kinds.Shape.TheVariants as shapes
 use Rattle.json_model.specs.Grammar.{AreBlanks, IsString}
+use Rattle.json_model.specs.Moves.{gap_before}
 use Rattle.json_model.specs.Spelled.{Head, plain, keyed, Tree, leaf, empty, group, Parts, last, more, opening, closing, head_text, text, parts_text, HeadFits, Fits, PartsFit, Document, document_text, IsText}
 use Rattle.json_model.specs.Follow.{child}
 use Rattle.json_walk.specs.declared.places.PartAt.{PartAt}
 use Rattle.json_walk.specs.Places.{Ends, IsAt, ArePartsAt}
-use Rattle.json_walk.specs.Telling.{tree_end, first_head, first_tree, part_at, end_at, parts_behind, parts_from, told}
+use Rattle.json_walk.specs.Telling.{tree_end, first_head, first_tree, key_of, part_at, end_at, parts_behind, parts_from, told}
 
 -- ---- what ends a value
 
@@ -139,3 +140,32 @@ child_at bytes shape zero at (more h u g ps) t s e = let same : u ≡ t = cc in 
 child_at bytes shape (suc k) at (more h u g ps) t s e =
     let f = child_at bytes shape k (end_at at (more h u g ps) + length g + 1) ps t (behind_comma bytes at shape h u g ps s) e in
     record { from = f.from; left = f.left; found = f.found; there = f.there; first = f.first }
+
+-- ---- keys
+
+-- the bytes of a member's key are its text, and that is a string
+pub record IsKey (bytes : List ℕ) (at : ℕ) (ps : Parts) : Type 0 where
+  pub inside : take ((part_at at ps).key_to - (part_at at ps).start) (drop (part_at at ps).start bytes) ≡ key_of (first_head ps)
+  pub string : IsString (key_of (first_head ps))
+
+cut_out : (bytes front middle back : List ℕ) (from to : ℕ) → bytes ≡ front ++ (middle ++ back) → length front ≡ from → to ≡ from + length middle → take (to - from) (drop from bytes) ≡ middle
+cut_out bytes front middle back from to e n m =
+    ap (λ l. take (to - from) l) (ap (drop from) e ∙ drop_at front (middle ++ back) from n) ∙ take_at middle back (to - from) (omega arith)
+
+keyed_at : (bytes : List ℕ) (at : ℕ) (ps : Parts) (h : Head) (front rest : List ℕ) → first_head ps ≡ h → HeadFits shapes.Object h → bytes ≡ front ++ (head_text h ++ rest) → length front ≡ at → IsKey bytes at ps
+keyed_at bytes at ps (plain gap) front rest e f whole n = absurd f
+keyed_at bytes at ps (keyed gap key behind before) front rest e f whole n =
+    let more : List ℕ = (behind ++ 0x3a ∷ before) ++ rest in
+    let split : front ++ ((gap ++ (key ++ (behind ++ 0x3a ∷ before))) ++ rest) ≡ (front ++ gap) ++ (key ++ more) = simp append_assoc in
+    let g : length (gap_before (first_head ps)) ≡ length gap = ap (λ h. length (gap_before h)) e in
+    let k : key_of (first_head ps) ≡ key = ap key_of e in
+    record {
+      inside =
+          cut_out bytes (front ++ gap) key more (part_at at ps).start (part_at at ps).key_to (whole ∙ split) (omega (arith, n, g, length-append front gap)) (omega (arith, ap (λ (l : List ℕ). length l) k)) ∙ sym k;
+      string = subst IsString (sym k) f.1;
+    }
+
+pub key_at : (bytes : List ℕ) (at : ℕ) (ps : Parts) → ArePartsAt bytes at shapes.Object ps → IsKey bytes at ps
+key_at bytes at ps s =
+    let l = leads shapes.Object ps s.back s.fits in
+    keyed_at bytes at ps (first_head ps) s.front (text (first_tree ps) ++ l.tail) refl l.head_fits (s.spelled ∙ ap (λ m. s.front ++ m) l.split) s.at_is
