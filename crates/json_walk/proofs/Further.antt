@@ -11,7 +11,7 @@ use Rattle.json_spell.proofs.Again.{Starts, behind_again}
 use Rattle.json_spell.proofs.Placed.{behind_short}
 use Rattle.json_walk.specs.declared.places.PartAt.{PartAt}
 use Rattle.json_walk.specs.Places.{IsAt, ArePartsAt}
-use Rattle.json_walk.specs.Telling.{tree_end, filled, first_head, first_tree, part_at, end_at, parts_behind, parts_from, told, part_of, last_end_at, last_end_of, LiesWithin}
+use Rattle.json_walk.specs.Telling.{tree_end, filled, first_tree, part_at, end_at, parts_behind, parts_from, told, part_of, last_end_at, last_end_of, LiesWithin}
 use Rattle.json_walk.proofs.Standing.{first_value, inside, behind_comma}
 
 -- ---- the bytes behind a part's value
@@ -83,7 +83,7 @@ next_some bytes skipped rest shape end place p k c here found at (more h t g ps)
     let same : 0x2c ∷ rest ≡ 0x2c ∷ (parts_text ps ++ closing shape ∷ s.back) = sym c.skipped_is ∙ k ∙ ap (λ n. behind_gap (drop n bytes)) e ∙ comma_left bytes at shape h t g ps s in
     let b = behind_comma bytes at shape h t g ps s in
     let there : place ≡ end_at at (more h t g ps) + length g + 1 =
-        omega (arith, here, b.at_is, ap (λ (l : List ℕ). length l) b.spelled, length-append b.front (parts_text ps ++ closing shape ∷ b.back), length-append (parts_text ps) (closing shape ∷ b.back), ap (λ (l : List ℕ). length l) same, length-append (parts_text ps) (closing shape ∷ s.back), ap (λ (l : List ℕ). length l) s.spelled, s.at_is, length-append s.front (parts_text (more h t g ps) ++ closing shape ∷ s.back), length-append (parts_text (more h t g ps)) (closing shape ∷ s.back), length-append (head_text h) (text t ++ (g ++ 0x2c ∷ parts_text ps)), length-append (text t) (g ++ 0x2c ∷ parts_text ps), length-append g (0x2c ∷ parts_text ps)) in
+    omega (arith, here, b.at_is, ap (λ (l : List ℕ). length l) b.spelled, length-append b.front (parts_text ps ++ closing shape ∷ b.back), length-append (parts_text ps) (closing shape ∷ b.back), ap (λ (l : List ℕ). length l) same, length-append (parts_text ps) (closing shape ∷ s.back), ap (λ (l : List ℕ). length l) s.spelled, s.at_is, length-append s.front (parts_text (more h t g ps) ++ closing shape ∷ s.back), length-append (parts_text (more h t g ps)) (closing shape ∷ s.back), length-append (head_text h) (text t ++ (g ++ 0x2c ∷ parts_text ps)), length-append (text t) (g ++ 0x2c ∷ parts_text ps), length-append g (0x2c ∷ parts_text ps)) in
     ap Some (found ps (subst (λ n. ArePartsAt bytes n shape ps) (sym there) b) ∙ ap (λ n. part_at n ps) there)
 
 -- the places of a part that begins there lie behind the comma

@@ -1,5 +1,5 @@
 -- What is read at a place is what stands there.
-use Rattle.std.proofs.Common.{◌≡◌, ℕ, ◌+◌, ◌-◌, ◌<◌, ◌≤◌, List, [], ◌∷◌, ◌++◌, length, take, drop, get_or, Bool, true, false, cond, eqb, Some, None, Option, unwrap_or, ◌⊎◌, inl, inr, refl, sym, ap, subst, ◌∙◌, arith, append_assoc, length-append, length-drop}
+use Rattle.std.proofs.Common.{◌≡◌, ℕ, ◌+◌, ◌-◌, ◌≤◌, List, [], ◌∷◌, ◌++◌, length, take, drop, get_or, Bool, true, false, cond, eqb, Some, None, Option, unwrap_or, ◌⊎◌, inl, inr, refl, sym, ap, subst, ◌∙◌, arith, append_assoc, length-append, length-drop}
 use Rattle.std.specs.Prelude.{◌||◌}
 use Rattle.std.proofs.lemmas.List.{take_all}
 use Rattle.std.proofs.lemmas.Bool.Decides.{nat_tests}
@@ -7,9 +7,8 @@ use Rattle.json_model.specs.declared.kinds.Kind.{Kind}
 use Rattle.json_model.specs.declared.kinds.Kind.TheVariants as kinds
 use Rattle.json_model.specs.declared.kinds.Shape.{Shape}
 use Rattle.json_model.specs.declared.kinds.Shape.TheVariants as shapes
-use Rattle.json_model.specs.Grammar.{AreBlanks, IsString, IsLeaf}
 use Rattle.json_model.specs.Moves.{gap_before}
-use Rattle.json_model.specs.Spelled.{Head, plain, keyed, Tree, leaf, empty, group, Parts, last, more, opening, closing, head_text, text, parts_text, HeadFits, Fits, PartsFit, Document, IsText}
+use Rattle.json_model.specs.Spelled.{Head, plain, keyed, Tree, leaf, empty, group, Parts, opening, closing, head_text, text, parts_text, HeadFits, Fits, Document, IsText}
 use Rattle.json_spell.specs.Tokens.{behind_gap, kind_at}
 use Rattle.json_spell.proofs.Again.{Starts, behind_again, tree_starts, leaf_first, tree_first}
 use Rattle.json_spell.proofs.Placed.{behind_short}
@@ -21,7 +20,7 @@ use Rattle.json_walk.proofs.Shorter.{value_short, key_short, colon_short}
 use Rattle.json_walk.proofs.Strings.{Quoted, string_quoted}
 use Rattle.json_walk.proofs.Words.{AreInner}
 use Rattle.json_walk.proofs.Passing.{quoted_behind, value_behind, leaf_cases}
-use Rattle.json_walk.proofs.Standing.{value_left, parts_left, Leads, leads}
+use Rattle.json_walk.proofs.Standing.{value_left, parts_left, leads}
 
 -- ---- the root
 
@@ -135,7 +134,7 @@ part_is bytes left start key value at shape l a b c ps s =
     let e : left ≡ head_text h ++ rest = l ∙ parts_left bytes at shape ps s ∙ led.split in
     let p = head_passed shape h rest start key value led.head_fits (tree_starts (first_tree ps) led.tail led.tree_fits) (a ∙ ap behind_gap e) b c in
     let whole : length bytes ≡ at + length (head_text h ++ rest) =
-        omega (arith, s.at_is, ap (λ (m : List ℕ). length m) s.spelled, ap (λ (m : List ℕ). length m) led.split, length-append s.front (parts_text ps ++ closing shape ∷ s.back)) in
+    omega (arith, s.at_is, ap (λ (m : List ℕ). length m) s.spelled, ap (λ (m : List ℕ). length m) led.split, length-append s.front (parts_text ps ++ closing shape ∷ s.back)) in
     let n : length value ≡ length rest = ap (λ (m : List ℕ). length m) p.valued in
     let m : length (head_text h ++ rest) ≡ length (head_text h) + length rest = length-append (head_text h) rest in
     let i : length start + length (gap_before h) ≡ length (head_text h ++ rest) = p.begun in

@@ -1,18 +1,18 @@
 -- A value opens and closes as many brackets outside strings, and so it is stepped over.
-use Rattle.std.proofs.Common.{◌≡◌, ℕ, ◌+◌, ◌-◌, ◌≤◌, List, [], ◌∷◌, ◌++◌, length, Bool, true, false, cond, eqb, ◌⊎◌, inl, inr, refl, sym, ap, subst, ◌∙◌, arith, append_assoc}
+use Rattle.std.proofs.Common.{◌≡◌, ℕ, ◌+◌, ◌-◌, ◌≤◌, List, [], ◌∷◌, ◌++◌, length, false, cond, eqb, ◌⊎◌, inl, inr, refl, sym, ap, subst, ◌∙◌, arith, append_assoc}
 use Rattle.std.specs.Prelude.{codes}
 use Rattle.std.proofs.lemmas.Bool.Decides.{nat_tests}
 use Rattle.json_model.specs.declared.kinds.Kind.{Kind}
 use Rattle.json_model.specs.declared.kinds.Kind.TheVariants as kinds
 use Rattle.json_model.specs.declared.kinds.Shape.{Shape}
 use Rattle.json_model.specs.declared.kinds.Shape.TheVariants as shapes
-use Rattle.json_model.specs.Grammar.{IsBlank, AreBlanks, IsString, IsNumber, IsLeaf}
+use Rattle.json_model.specs.Grammar.{IsBlank, AreBlanks, IsLeaf}
 use Rattle.json_model.specs.Spelled.{Head, plain, keyed, Tree, leaf, empty, group, Parts, last, more, opening, closing, head_text, text, parts_text, HeadFits, Fits, PartsFit}
 use Rattle.json_spell.proofs.Again.{leaf_first}
-use Rattle.json_walk.specs.Stepping.{opens, closes, ends_word, behind_word, behind_string, closed_at, behind_value}
+use Rattle.json_walk.specs.Stepping.{opens, closes, behind_word, behind_string, closed_at, behind_value}
 use Rattle.json_walk.specs.Places.{Ends}
 use Rattle.json_walk.proofs.Strings.{Quoted, string_quoted, string_whole}
-use Rattle.json_walk.proofs.Words.{Inner, AreInner, number_inner, word_passed}
+use Rattle.json_walk.proofs.Words.{AreInner, number_inner, word_passed}
 
 -- these bytes open and close nothing that stays
 abbrev pub Passes : List ℕ → Type 0

@@ -1,5 +1,5 @@
 -- What is left of bytes is no longer than they are.
-use Rattle.std.proofs.Common.{◌≡◌, ℕ, ◌+◌, ◌-◌, ◌≤◌, List, [], ◌∷◌, length, drop, Bool, true, false, cond, eqb, arith, length-drop}
+use Rattle.std.proofs.Common.{ℕ, ◌+◌, ◌-◌, ◌≤◌, List, [], ◌∷◌, length, drop, Bool, true, false, cond, eqb, arith, length-drop}
 use Rattle.json_model.specs.declared.kinds.Shape.{Shape}
 use Rattle.json_model.specs.declared.kinds.Shape.TheVariants as shapes
 use Rattle.json_spell.specs.Tokens.{behind_gap}
@@ -15,6 +15,7 @@ longer x xs ys h = omega (arith, h)
 
 mutual
   unfolding behind_string behind_escape
+
   pub string_short : (xs : List ℕ) → length (behind_string xs) ≤ length xs
   string_short [] = omega arith
   string_short (x ∷ xs) =
@@ -32,6 +33,7 @@ word_short (x ∷ xs) = one_of (ends_word x) (x ∷ xs) (behind_word xs) (length
 
 mutual
   unfolding closed_at string_at escape_at
+
   closed_short : (depth : ℕ) (xs : List ℕ) → length (closed_at depth xs) ≤ length xs
   closed_short depth [] = omega arith
   closed_short depth (x ∷ xs) =

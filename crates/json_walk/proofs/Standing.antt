@@ -1,15 +1,14 @@
 -- From where a value stands to where its parts stand, and from part to part.
-use Rattle.std.proofs.Common.{◌≡◌, ℕ, zero, suc, ◌+◌, ◌-◌, ◌<◌, ◌≤◌, List, [], ◌∷◌, ◌++◌, length, take, drop, Some, None, inl, inr, refl, sym, ap, subst, ◌∙◌, arith, append_assoc, length-append}
+use Rattle.std.proofs.Common.{◌≡◌, ℕ, zero, suc, ◌+◌, ◌-◌, ◌<◌, ◌≤◌, List, [], ◌∷◌, ◌++◌, length, take, drop, Some, inl, inr, refl, sym, ap, subst, ◌∙◌, arith, append_assoc, length-append}
 use Rattle.std.proofs.lemmas.List.{drop_at, take_at}
 use Rattle.json_model.specs.declared.kinds.Shape.{Shape}
 use Rattle.json_model.specs.declared.kinds.Shape.TheVariants as shapes
 use Rattle.json_model.specs.Grammar.{AreBlanks, IsString}
 use Rattle.json_model.specs.Moves.{gap_before}
-use Rattle.json_model.specs.Spelled.{Head, plain, keyed, Tree, leaf, empty, group, Parts, last, more, opening, closing, head_text, text, parts_text, HeadFits, Fits, PartsFit, Document, document_text, IsText}
+use Rattle.json_model.specs.Spelled.{Head, plain, keyed, Tree, group, Parts, last, more, opening, closing, head_text, text, parts_text, HeadFits, Fits, PartsFit, Document, IsText}
 use Rattle.json_model.specs.Follow.{child}
-use Rattle.json_walk.specs.declared.places.PartAt.{PartAt}
 use Rattle.json_walk.specs.Places.{Ends, IsAt, ArePartsAt}
-use Rattle.json_walk.specs.Telling.{tree_end, first_head, first_tree, key_of, part_at, end_at, parts_behind, parts_from, told}
+use Rattle.json_walk.specs.Telling.{tree_end, first_head, first_tree, key_of, part_at, end_at, parts_from}
 
 -- ---- what ends a value
 

@@ -1,8 +1,8 @@
 -- A string is passed over as a whole: neither an escape nor a byte of a character ends it.
-use Rattle.std.proofs.Common.{◌≡◌, ℕ, ◌≤◌, List, [], ◌∷◌, ◌++◌, Bool, true, false, cond, eqb, length, drop, ◌⊎◌, inl, inr, refl, sym, ap, ◌∙◌, arith, append_assoc}
+use Rattle.std.proofs.Common.{◌≡◌, ℕ, ◌≤◌, List, [], ◌∷◌, ◌++◌, Bool, true, false, cond, eqb, drop, inl, inr, refl, sym, ap, ◌∙◌, arith, append_assoc}
 use Rattle.std.specs.List.{flat_map, AllByRecursion}
 use Rattle.std.proofs.lemmas.Bool.Decides.{nat_tests}
-use Rattle.json_model.specs.Grammar.{Within, IsTail, IsPlain, BeginsThree, BeginsFour, IsHex, IsCharacter, IsString}
+use Rattle.json_model.specs.Grammar.{IsTail, IsPlain, BeginsThree, BeginsFour, IsHex, IsCharacter, IsString}
 use Rattle.json_walk.specs.Stepping.{behind_string, behind_escape, closed_at, string_at, escape_at}
 
 -- a byte that neither ends a string nor begins an escape
@@ -109,6 +109,7 @@ spread f false false x y z = refl
 
 mutual
   unfolding behind_string behind_escape closed_at string_at escape_at
+
   pub string_whole : (depth : ℕ) (xs : List ℕ) → string_at depth xs ≡ closed_at depth (behind_string xs)
   string_whole depth [] = refl
   string_whole depth (x ∷ xs) =

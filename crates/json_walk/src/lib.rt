@@ -3,8 +3,8 @@
 //!
 //! Once `json_spell` has judged bytes to be a JSON text, a value in it can be stepped over by its
 //! brackets and quotation marks alone. A value is named by the place of its first byte; places
-//! count bytes of the text, from 0 on. Each function looks at the bytes that it passes over, at
-//! each of them once, and no function calls itself.
+//! count bytes of the text, from 0 on. A step looks once at each byte that it passes over, and no
+//! function calls itself.
 //!
 //! | Question | Answer |
 //! |---|---|

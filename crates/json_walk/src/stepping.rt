@@ -53,11 +53,7 @@ fn behind_word(bytes: &[u8]) -> &[u8]
 }
 
 /// The bytes behind a string, from behind its opening quotation mark on.
-#[tactic(
-    auto,
-    using(crate::proofs::Strings::skip_step),
-    unfolding(crate::specs::Stepping::behind_string)
-)]
+#[tactic(auto, using(crate::proofs::Strings::skip_step), unfolding(crate::specs::Stepping::behind_string))]
 fn behind_string(bytes: &[u8]) -> &[u8]
     ensures { result.now ≡ behind_string bytes.now }
 {
@@ -73,11 +69,7 @@ fn behind_string(bytes: &[u8]) -> &[u8]
 }
 
 /// The bytes behind an object or an array, from behind its opening bracket on.
-#[tactic(
-    auto,
-    using(crate::proofs::Strings::string_whole, crate::proofs::Shorter::string_short),
-    unfolding(crate::specs::Stepping::closed_at)
-)]
+#[tactic(auto, using(crate::proofs::Strings::string_whole, crate::proofs::Shorter::string_short), unfolding(crate::specs::Stepping::closed_at))]
 fn behind_group(bytes: &[u8]) -> &[u8]
     ensures { result.now ≡ closed_at 0 bytes.now }
 {

@@ -1,4 +1,4 @@
-use Rattle.std.proofs.Common.{ℕ, refl, ◌∙◌}
+use Rattle.std.proofs.Common.{refl, ◌∙◌}
 use Rattle.json_walk.proofs.Standing.{root_at, inside, first_value}
 use Rattle.json_walk.proofs.Further.{there_from, from_some}
 use Rattle.json_walk.proofs.laws.places_lead_on.Goals as goal

@@ -1,4 +1,4 @@
-use Rattle.std.proofs.Common.{◌≡◌, ◌+◌, ◌-◌, ◌≤◌, length}
+use Rattle.std.proofs.Common.{◌-◌, ◌≤◌, length}
 use Rattle.json_model.specs.Spelled.{Parts}
 use Rattle.json_walk.specs.Places.{ArePartsAt}
 use Rattle.json_walk.proofs.Further.{Going}

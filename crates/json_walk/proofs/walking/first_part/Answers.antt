@@ -1,4 +1,4 @@
-use Rattle.std.proofs.Common.{◌+◌, Some, sym, ap, ◌∙◌}
+use Rattle.std.proofs.Common.{Some, sym, ap, ◌∙◌}
 use Rattle.json_walk.specs.Telling.{part_of}
 use Rattle.json_walk.proofs.Further.{none_of, holds}
 use Rattle.json_walk.proofs.walking.first_part.Goals as goal

@@ -1,4 +1,4 @@
-use Rattle.std.proofs.Common.{◌+◌, ◌-◌, ◌≤◌, length, take, drop, refl, ap, ◌∙◌, arith}
+use Rattle.std.proofs.Common.{refl, ap, ◌∙◌, arith}
 use Rattle.json_spell.specs.Tokens.{behind_gap}
 use Rattle.json_walk.proofs.Further.{next_none, none_first, other_first, comma, next_some, next_lies}
 use Rattle.json_walk.proofs.walking.next_part.Goals as goal

@@ -1,4 +1,4 @@
-use Rattle.std.proofs.Common.{◌≤◌, length, ap, ℕ, List, arith}
+use Rattle.std.proofs.Common.{length, ap, ℕ, List, arith}
 use Rattle.json_spell.proofs.Placed.{behind_short}
 use Rattle.json_walk.proofs.Heads.{root_is}
 use Rattle.json_walk.proofs.walking.root.Goals as goal
