@@ -1,0 +1,7 @@
+pub mod Shorter
+pub mod Strings
+pub mod Words
+pub mod Passing
+pub mod Standing
+pub mod Heads
+pub mod Further
