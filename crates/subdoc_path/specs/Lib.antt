@@ -5,3 +5,4 @@ pub mod Standing
 pub mod Leading
 pub mod Stepping
 pub mod Cutting
+pub mod Led

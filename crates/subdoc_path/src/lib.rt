@@ -53,6 +53,7 @@ mod cutting;
 mod finding;
 mod keys;
 mod laws;
+mod led;
 mod path;
 mod pieces;
 mod reading;
@@ -60,6 +61,7 @@ mod reading;
 pub use cutting::value_span;
 pub use finding::{Found, find, find_parts};
 pub use laws::one_path;
+pub use led::Led;
 pub use path::{Path, PathFault};
 pub use reading::read_path;
 
