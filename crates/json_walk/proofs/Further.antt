@@ -5,13 +5,12 @@ use Rattle.std.proofs.lemmas.List.{take_all, drop_at}
 use Rattle.json_model.specs.declared.kinds.Shape.{Shape}
 use Rattle.json_model.specs.declared.kinds.Shape.TheVariants as shapes
 use Rattle.json_model.specs.Spelled.{Head, Tree, leaf, empty, group, Parts, last, more, closing, head_text, text, parts_text, count}
-use Rattle.json_spell.specs.Reading.{children}
 use Rattle.json_spell.specs.Tokens.{behind_gap}
 use Rattle.json_spell.proofs.Again.{Starts, behind_again}
 use Rattle.json_spell.proofs.Placed.{behind_short}
 use Rattle.json_walk.specs.declared.places.PartAt.{PartAt}
 use Rattle.json_walk.specs.Places.{IsAt, ArePartsAt}
-use Rattle.json_walk.specs.Telling.{tree_end, filled, first_tree, part_at, end_at, parts_behind, parts_from, told, part_of, last_end_at, last_end_of, LiesWithin}
+use Rattle.json_walk.specs.Telling.{tree_end, filled, first_tree, part_at, end_at, parts_behind, parts_from, told, part_of, last_end_at, last_end_of, many_of, LiesWithin}
 use Rattle.json_walk.proofs.Standing.{first_value, inside, behind_comma}
 
 -- ---- the bytes behind a part's value
@@ -214,7 +213,7 @@ going_done bytes shape from ps number end g step = by_left g.left g.end_is g.cou
 
 -- ---- where nothing is held
 
-pub no_children : (t : Tree) → None ≡ filled t → 0 ≡ children t
+pub no_children : (t : Tree) → None ≡ filled t → 0 ≡ many_of t
 no_children (leaf kind s) e = refl
 no_children (empty shape gap) e = refl
 no_children (group shape ps) e = cc

@@ -5,3 +5,4 @@ pub mod Passing
 pub mod Standing
 pub mod Heads
 pub mod Further
+pub mod Changes

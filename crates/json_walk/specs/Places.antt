@@ -25,3 +25,10 @@ pub record ArePartsAt (bytes : List ℕ) (at : ℕ) (shape : Shape) (ps : Parts)
   pub spelled : bytes ≡ front ++ (parts_text ps ++ closing shape ∷ back)
   pub at_is : length front ≡ at
   pub fits : PartsFit shape ps
+
+-- Whatever one value of a text becomes, which stands at this place, the same bytes stand before and behind it.
+pub record StaysRound (change : (Tree → Tree) → List ℕ) (at : ℕ) (t : Tree) : Type 0 where
+  pub front : List ℕ
+  pub back : List ℕ
+  pub at_is : length front ≡ at
+  pub spliced : (f : Tree → Tree) → change f ≡ front ++ (text (f t) ++ back)

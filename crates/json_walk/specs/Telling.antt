@@ -2,7 +2,7 @@
 use Rattle.std.specs.Prelude.{ℕ, zero, suc, ◌+◌, ◌≤◌, List, [], length, Option, Some, None, option_map}
 use Rattle.json_model.specs.declared.kinds.Kind.{Kind}
 use Rattle.json_model.specs.declared.kinds.Shape.{Shape}
-use Rattle.json_model.specs.Spelled.{Head, plain, keyed, Tree, leaf, empty, group, Parts, last, more, text, head_text}
+use Rattle.json_model.specs.Spelled.{Head, plain, keyed, Tree, leaf, empty, group, Parts, last, more, text, head_text, count}
 use Rattle.json_model.specs.Moves.{gap_before}
 use Rattle.json_spell.specs.Nodes.{kind_of}
 use Rattle.json_walk.specs.declared.places.PartAt.{PartAt}
@@ -88,6 +88,12 @@ abbrev pub part_of : ℕ → ℕ → Tree → Option PartAt
 part_of k at (leaf kind s) = None
 part_of k at (empty shape gap) = None
 part_of k at (group shape ps) = told (parts_from k (at + 1) ps)
+
+-- how many it has
+abbrev pub many_of : Tree → ℕ
+many_of (leaf kind s) = 0
+many_of (empty shape gap) = 0
+many_of (group shape ps) = count ps
 
 -- the place behind its last part's value
 abbrev pub last_end_of : ℕ → Tree → Option ℕ

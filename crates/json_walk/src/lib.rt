@@ -43,7 +43,7 @@ mod places;
 mod stepping;
 mod walking;
 
-pub use laws::places_lead_on;
+pub use laws::{changes_stay_within, places_lead_on};
 pub use places::PartAt;
 pub use walking::{count, first_part, kind_at, last_end, next_part, part, root, value_end};
 

@@ -2,12 +2,11 @@
 
 ghost use Rattle.std.specs.Prelude.{◌≡◌, ℕ, ◌+◌, ◌<◌, ◌≤◌, length, IfSome};
 ghost use Rattle.json_model.specs.Spelled.{Tree, Parts, Document, count, IsText};
-ghost use Rattle.json_spell.specs.Reading.{children};
 ghost use Rattle.json_walk.specs.Places.{IsAt, ArePartsAt};
 ghost use Rattle.json_walk.specs.Stepping.{shape_told};
 ghost use Rattle.json_walk.specs.Telling.{tree_kind, tree_end, filled, LiesWithin, part_at};
 ghost use Rattle.json_walk.specs.Telling.{end_at, parts_behind, told, part_of};
-ghost use Rattle.json_walk.specs.Telling.{last_end_at, last_end_of};
+ghost use Rattle.json_walk.specs.Telling.{last_end_at, last_end_of, many_of};
 
 use crate::places::PartAt;
 use crate::stepping::{behind_colon, behind_key, behind_value, kind_of, skip_blanks};
@@ -173,7 +172,7 @@ fn all_parts_from(text: &[u8], shape: Shape, from: usize) -> AllParts
 /// How many members or elements the value at a place has.
 pub fn count(text: &[u8], at: usize) -> u64
     requires { at ≤ length text.now }
-    ensures found { (t : Tree) → IsAt text.now at t → result ≡ children t }
+    ensures found { (t : Tree) → IsAt text.now at t → result ≡ many_of t }
     ensures few { result ≤ length text.now }
 {
     match filled(text, at) {
