@@ -107,7 +107,7 @@ def large() -> None:
     for name, text in (
         ("[], over and over", filled(b"[],", b"[]")),
         ("1, over and over", filled(b"1,", b"1")),
-        ("one long text", filled(b"", b'"' + b"x" * (20 * MIB - 4) + b'"')),
+        ("one long text", b'["' + b"x" * (20 * MIB - 4) + b'"]'),
     ):
         judged, _ = timed(stored(text) + frame(GET, b"", b"d", b""))
         looked, peak = timed(stored(text) + part(LOOK, b"[-1]"))
