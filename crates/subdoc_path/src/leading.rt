@@ -84,9 +84,9 @@ fn kind_asked(part: &Part) -> Kind
     }
 }
 
-/// Follows parts of a path in a JSON text itself. It takes no memory, and for each part of the path
-/// passes once over the bytes before the value that the part names; for the last element over that
-/// too.
+/// Follows parts of a path in a JSON text itself. It takes no memory. Each part goes on from the
+/// value that was reached, and steps over the bytes between that and the value that it names; for
+/// the last element over that too.
 ///
 /// A part that names nothing that is there is [`Led::Missing`], one that asks for another kind of
 /// value [`Led::Mismatch`], each with its number.
