@@ -7,3 +7,5 @@ pub mod Walking
 pub mod Counting
 pub mod Following
 pub mod Trailing
+pub mod Naming
+pub mod Placing

@@ -6,3 +6,4 @@ pub mod Leading
 pub mod Stepping
 pub mod Cutting
 pub mod Led
+pub mod Naming

@@ -45,7 +45,22 @@
 //! list of the text's values: the object, that of `a`, the array, `true`, `7`. `a.c.d` is missing
 //! at part 1, and `a[0]` doesn't match at part 1.
 //!
-//! Following takes no memory, and looks at no value within those that it passes.
+//! [`find`] follows a path by the list of a text's values, and tells a value's number in it. It
+//! takes no memory, and looks at no value within those that it passes.
+//!
+//! [`follow`] follows parts in the text itself, without a list, and tells the place of a value's
+//! first byte, counted from 0 on. It takes no memory either. Each part goes on from the value that
+//! was reached, and steps over what stands between that and the value that it names: once over each
+//! byte, and once more over a key, to compare it. `[-1]` steps over the last element too. The text
+//! must be JSON, as `json_spell::is_json` tells. In the text above:
+//!
+//! | Path | Number | Place |
+//! |---|---|---|
+//! | (none) | 0 | 0 |
+//! | `a` | 1 | 6 |
+//! | `a.b` | 2 | 12 |
+//! | `a.b[0]` | 3 | 13 |
+//! | `a.b[-1]` | 4 | 19 |
 #![tactic(auto)]
 
 mod children;
@@ -53,6 +68,7 @@ mod cutting;
 mod finding;
 mod keys;
 mod laws;
+mod leading;
 mod led;
 mod path;
 mod pieces;
@@ -61,6 +77,7 @@ mod reading;
 pub use cutting::value_span;
 pub use finding::{Found, find, find_parts};
 pub use laws::one_path;
+pub use leading::follow;
 pub use led::Led;
 pub use path::{Path, PathFault};
 pub use reading::read_path;

@@ -1,7 +1,7 @@
 //! What no clause says: that the grammar of the clauses is the one of the head page.
-use crate::{Found, PathFault, find, read_path};
+use crate::{Found, Led, PathFault, find, follow, read_path};
 use json_model::Part;
-use json_spell::{Scanned, scan};
+use json_spell::{Scanned, is_json, scan};
 use std::alloc::Global;
 
 const EINVAL: u16 = 1001;
@@ -127,11 +127,30 @@ fn found(alloc: Global, text: &[u8], path: &[u8]) -> Option<(u16, usize)> {
     }
 }
 
-/// The number of the first row whose path leads elsewhere.
-fn first_misled(alloc: Global, rows: &[(&[u8], &[u8], (u16, usize))]) -> Option<usize> {
+/// Where a path leads in a text itself.
+fn led(alloc: Global, text: &[u8], path: &[u8]) -> Option<(u16, usize)> {
+    if !is_json(text) {
+        return None;
+    }
+    match read_path(alloc, path) {
+        Ok(path) => match follow(text, path.parts()) {
+            Led::At(place) => Some((AT, place)),
+            Led::Missing(number) => Some((MISSING, number)),
+            Led::Mismatch(number) => Some((MISMATCH, number)),
+        },
+        Err(_) => None,
+    }
+}
+
+/// The number of the first row whose path leads elsewhere: what is told with the value's number or
+/// the part's, and the place of the value's first byte or the part's number again.
+fn first_misled(alloc: Global, rows: &[(&[u8], &[u8], (u16, usize), usize)]) -> Option<usize> {
     let mut number = 0;
-    for (text, path, wanted) in rows {
+    for (text, path, wanted, place) in rows {
         if found(alloc, text, path) != Some(*wanted) {
+            return Some(number);
+        }
+        if led(alloc, text, path) != Some((wanted.0, *place)) {
             return Some(number);
         }
         number = number.saturating_add(1);
@@ -144,27 +163,35 @@ fn paths_lead_where_the_head_page_says(rt: HostRuntime) {
     let page: &[u8] = b"{\"a\": {\"b\": [true, 7]}}";
     let keys: &[u8] =
         b"{\"\\u0061\":1,\"a\":2,\"\\ud83d\\ude00\":3,\"\\ud83d\":4,\"\\/\":5,\"\":6}";
-    let rows: &[(&[u8], &[u8], (u16, usize))] = &[
-        (page, b"", (AT, 0)),
-        (page, b"a.b[-1]", (AT, 4)),
-        (page, b"a.b[0]", (AT, 3)),
-        (page, b"a.b[2]", (MISSING, 2)),
-        (page, b"a.c.d", (MISSING, 1)),
-        (page, b"a[0]", (MISMATCH, 1)),
-        (page, b"[0]", (MISMATCH, 0)),
-        (page, b"a.b[1].c", (MISMATCH, 3)),
-        (keys, b"a", (AT, 1)),
-        (keys, b"\xf0\x9f\x98\x80", (AT, 3)),
-        (b"{\"\\ud83d\":1}", b"``", (MISSING, 0)),
-        (keys, b"/", (AT, 5)),
-        (keys, b"``", (AT, 6)),
-        (keys, b"b", (MISSING, 0)),
-        (b" [ ] ", b"[-1]", (MISSING, 0)),
-        (b" [ ] ", b"a", (MISMATCH, 0)),
-        (b"{}", b"a", (MISSING, 0)),
-        (b"{}", b"[-1]", (MISMATCH, 0)),
-        (b"[[1,2],[3,[4]],5]", b"[1][-1][0]", (AT, 7)),
-        (b"[[1,2],[3,[4]],5]", b"[2]", (AT, 8)),
+    let nested: &[u8] = b"[[1,2],[3,[4]],5]";
+    let blank: &[u8] = b" [ 1 , [2,3] , true ] ";
+    let brackets: &[u8] = b"{\"x\":\"]},\\\"\",\"y\" : [ ] }";
+    let rows: &[(&[u8], &[u8], (u16, usize), usize)] = &[
+        (page, b"", (AT, 0), 0),
+        (page, b"a.b[-1]", (AT, 4), 19),
+        (page, b"a.b[0]", (AT, 3), 13),
+        (page, b"a.b[2]", (MISSING, 2), 2),
+        (page, b"a.c.d", (MISSING, 1), 1),
+        (page, b"a[0]", (MISMATCH, 1), 1),
+        (page, b"[0]", (MISMATCH, 0), 0),
+        (page, b"a.b[1].c", (MISMATCH, 3), 3),
+        (keys, b"a", (AT, 1), 10),
+        (keys, b"\xf0\x9f\x98\x80", (AT, 3), 33),
+        (b"{\"\\ud83d\":1}", b"``", (MISSING, 0), 0),
+        (keys, b"/", (AT, 5), 51),
+        (keys, b"``", (AT, 6), 56),
+        (keys, b"b", (MISSING, 0), 0),
+        (b" [ ] ", b"[-1]", (MISSING, 0), 0),
+        (b" [ ] ", b"a", (MISMATCH, 0), 0),
+        (b"{}", b"a", (MISSING, 0), 0),
+        (b"{}", b"[-1]", (MISMATCH, 0), 0),
+        (nested, b"[1][-1][0]", (AT, 7), 11),
+        (nested, b"[2]", (AT, 8), 15),
+        (blank, b"", (AT, 0), 1),
+        (blank, b"[1][-1]", (AT, 4), 10),
+        (blank, b"[-1]", (AT, 5), 15),
+        (brackets, b"y", (AT, 2), 19),
+        (brackets, b"y[0]", (MISSING, 1), 1),
     ];
     assert_eq!(rt; first_misled(rt.alloc(), rows), None);
 }
