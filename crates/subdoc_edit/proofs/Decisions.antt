@@ -1,5 +1,5 @@
 -- What is done where a path leads to a value.
-use Rattle.std.proofs.Common.{◌≡◌, ℕ, nat_eq, suc, ◌+◌, ◌-◌, ◌<◌, ◌≤◌, List, [], ◌∷◌, ◌++◌, length, take, get_or, Bool, true, false, Option, None, Some, Result, Ok, Err, inl, inr, refl, sym, ap, subst, ◌∙◌, arith, ℤ}
+use Rattle.std.proofs.Common.{◌≡◌, ℕ, nat_eq, suc, ◌+◌, ◌-◌, ◌<◌, List, [], ◌∷◌, ◌++◌, length, take, Bool, true, false, Option, None, Some, Result, Ok, Err, inl, inr, refl, sym, ap, subst, ◌∙◌, arith, ℤ}
 use Rattle.std.specs.Prelude.{if◌then◌else◌}
 use Rattle.std.specs.List.{list_all, list_any}
 use Rattle.std.specs.Cmp.Lexicographic.{pointwise}
@@ -12,29 +12,26 @@ use Rattle.json_model.specs.declared.kinds.Shape.{Shape}
 use Rattle.json_model.specs.declared.kinds.Shape.TheVariants as shapes
 use Rattle.json_model.specs.declared.asked.Part.{Part}
 use Rattle.json_model.specs.Grammar.{IsLeaf}
-use Rattle.json_model.specs.Spelled.{Tree, leaf, empty, group, Parts, text, parts_text, depth, count, Fits, Document, IsText}
-use Rattle.json_model.specs.Follow.{earlier, Outcome, reached, Follows, place}
+use Rattle.json_model.specs.Spelled.{Tree, leaf, empty, group, Parts, text, count, Fits, Document}
+use Rattle.json_model.specs.Follow.{Outcome, reached, Follows}
 use Rattle.json_model.specs.Moves.{Change, put, push, insert, remove}
 use Rattle.json_model.specs.Splices.{Reaches}
 use Rattle.json_model.specs.Edit.{Asked, delete, array_insert, add_unique, counter, Act, act, above, final, elements, array_elements, is_leaf, element, to_array, to_set, at_value, act_at}
 use Rattle.json_model.specs.Order.{ends_in_index}
 use Rattle.json_model.specs.Values.{GivesTree, GivesParts, GivesLeaf, GivesDelta, IsDelta}
 use Rattle.json_model.proofs.Following.{reached_trail}
-use Rattle.json_spell.specs.declared.node.Node.{Node}
-use Rattle.json_spell.specs.declared.node.Span.{Span}
-use Rattle.subdoc_path.specs.declared.finding.Found.TheVariants as found
-use Rattle.subdoc_path.specs.Leading.{Leads}
-use Rattle.subdoc_path.specs.Standing.{Stands, IsStanding}
+use Rattle.json_walk.specs.Places.{IsAt}
+use Rattle.json_walk.specs.Telling.{tree_kind}
+use Rattle.subdoc_path.specs.declared.led.Led.TheVariants as led
+use Rattle.subdoc_path.specs.Led.{StandsAt, LeadsAt}
 use Rattle.subdoc_edit.specs.declared.values.Given.{Given}
 use Rattle.subdoc_edit.specs.declared.plan.Plan.{Plan}
 use Rattle.subdoc_edit.specs.declared.plan.Content.{Content}
 use Rattle.subdoc_edit.specs.Given.{IsTree, IsParts, Describes, IsCutOut, given_bytes}
-use Rattle.subdoc_edit.specs.Splicing.{IsArray, Holds, IsPartOf}
-use Rattle.subdoc_edit.specs.Planning.{Plans, Stood, LeadsTo, IsNew, IsContent, PlansPut, PlansPush, PlansInsert, PlansRemove, Decides, TellsArray, TellsSet, TellsCounter}
-use Rattle.subdoc_edit.proofs.Pieces.{says}
-use Rattle.subdoc_edit.proofs.Spots.{Spot, spot_of, document_with}
-use Rattle.subdoc_edit.proofs.Trails.{Reached, leads_at, trail_long, inner, fronts, fronts_take, child_few, above_long, told_at}
-use Rattle.json_model.specs.Moves.{at_trail}
+use Rattle.subdoc_edit.specs.Splicing.{IsArray, Holds, IsStanding, IsPartOf, value_in}
+use Rattle.subdoc_edit.specs.Planning.{Plans, LeadsTo, IsNew, IsContent, PlansPut, PlansPush, PlansInsert, PlansRemove, Decides, TellsArray, TellsSet, TellsCounter}
+use Rattle.subdoc_edit.proofs.Spots.{text_place, stands_of, place_is}
+use Rattle.subdoc_edit.proofs.Trails.{leads_at, trail_long, inner, fronts, fronts_take, child_few, above_long, told_at}
 
 -- ---- what is given
 
@@ -94,28 +91,11 @@ new_leaf value g kind s cut text_is depth_is = record { trimmed = record { led_i
 
 -- ---- where
 
-pub stood_stands : (bytes : List ℕ) (nodes : List Node) (d : Document) (trail : List ℕ) (t : Tree) (index : ℕ) → Stood bytes nodes d trail t index → IsStanding bytes nodes index
-stood_stands bytes nodes d trail t index s =
-    let spot : Spot bytes nodes (λ f. document_with d (at_trail trail f)) index t = subst (λ (i : ℕ). Spot bytes nodes (λ f. document_with d (at_trail trail f)) i t) (sym s.index_is) (spot_of bytes nodes d trail t s.is s.listed s.reaches) in
-    (spot.at, spot.key, t, spot.stands, spot.fits)
+pub stands_there : (bytes : List ℕ) (d : Document) (trail : List ℕ) (t : Tree) (at : ℕ) → StandsAt bytes d trail t at → IsStanding bytes at
+stands_there bytes d trail t at s = (t, s.place)
 
--- where a value stands
-pub record Spotted (bytes : List ℕ) (nodes : List Node) (index : ℕ) (t : Tree) : Type 0 where
-  pub at : ℕ
-  pub key : Span
-  pub stands : Stands bytes nodes at index key t
-  pub fits : Fits t
-
-pub spotted : (bytes : List ℕ) (nodes : List Node) (d : Document) (trail : List ℕ) (t : Tree) (index : ℕ) → Stood bytes nodes d trail t index → Spotted bytes nodes index t
-spotted bytes nodes d trail t index s =
-    let spot : Spot bytes nodes (λ f. document_with d (at_trail trail f)) index t = subst (λ (i : ℕ). Spot bytes nodes (λ f. document_with d (at_trail trail f)) i t) (sym s.index_is) (spot_of bytes nodes d trail t s.is s.listed s.reaches) in
-    record { at = spot.at; key = spot.key; stands = spot.stands; fits = spot.fits }
-
-pub stood : (bytes : List ℕ) (nodes : List Node) (parts : List Part) (d : Document) (index : ℕ) → LeadsTo bytes nodes parts d index → (r : Reached parts d.tree index) → Stood bytes nodes d r.trail r.tree index
-stood bytes nodes parts d index l r = record { is = l.is; listed = l.listed; reaches = reached_trail parts d.tree r.trail r.tree r.follows; index_is = r.place_is }
-
-pub found_stands : (bytes : List ℕ) (nodes : List Node) (parts : List Part) (d : Document) (index : ℕ) → LeadsTo bytes nodes parts d index → IsStanding bytes nodes index
-found_stands bytes nodes parts d index l = let r = leads_at parts d.tree index l.leads in stood_stands bytes nodes d r.trail r.tree index (stood bytes nodes parts d index l r)
+pub found_stands : (bytes : List ℕ) (parts : List Part) (d : Document) (at : ℕ) → LeadsTo bytes parts d at → IsStanding bytes at
+found_stands bytes parts d at l = let r = leads_at bytes parts d at l.leads in (r.tree, r.stands.place)
 
 -- ---- decisions
 
@@ -132,40 +112,35 @@ pub decides_as : (asked other : Asked) (several : Bool) (bytes value : List ℕ)
 decides_as asked other several bytes value parts d r e h = subst (λ (a : Asked). Decides a several bytes value parts d r) (sym e) h
 
 -- a value in place of another
-pub put_decides : (con : Tree → Asked) (several : Bool) (bytes value : List ℕ) (nodes : List Node) (parts : List Part) (d : Document) (index : ℕ) (g : Given) (p : Plan) (asked : Asked)
+pub put_decides : (con : Tree → Asked) (several : Bool) (bytes value : List ℕ) (parts : List Part) (d : Document) (at : ℕ) (g : Given) (p : Plan) (asked : Asked)
     → ((v : Tree) (trail : List ℕ) (t : Tree) → at_value (con v) trail t ≡ act trail (put v)) → ((v : Tree) → Describes value g (con v) → IsTree value g v)
-    → PlansPut bytes value nodes index (length parts) (one_value g) p → p.number ≡ None → LeadsTo bytes nodes parts d index → GivesTree con value (Ok asked) → Describes value g asked → Decides asked several bytes value parts d (Ok p)
-put_decides con several bytes value nodes parts d index g p asked same tree plans number l gives describes =
+    → PlansPut bytes value at (length parts) (one_value g) p → p.number ≡ None → LeadsTo bytes parts d at → GivesTree con value (Ok asked) → Describes value g asked → Decides asked several bytes value parts d (Ok p)
+put_decides con several bytes value parts d at g p asked same tree plans number l gives describes =
     let v = gives_tree con value asked gives in
-    let r = leads_at parts d.tree index l.leads in
+    let r = leads_at bytes parts d at l.leads in
     let w = tree v.0 (subst (λ (a : Asked). Describes value g a) v.1 describes) in
     decides_as asked (con v.0) several bytes value parts d (Ok p) v.1
     (decided (con v.0) several bytes value parts d p (reached r.trail r.tree) (plain_act r.trail (put v.0)) r.follows (same v.0 r.trail r.tree)
-    (plans d r.trail r.tree v.0 (stood bytes nodes parts d index l r) (sym (trail_long parts d.tree r.trail r.tree r.follows)) (content_of value g v.0 w)) (sym number))
+    (plans d r.trail r.tree v.0 r.stands (sym (trail_long parts d.tree r.trail r.tree r.follows)) (content_of value g v.0 w)) (sym number))
 
 -- ---- arrays
 
-pub array_yes : (bytes : List ℕ) (nodes : List Node) (at index : ℕ) (key : Span) (t : Tree) (n : Node) → Stands bytes nodes at index key t → Fits t → n ≡ get_or nodes index n → n.kind ≡ kinds.Array → TellsArray t true
-array_yes bytes nodes at index key (leaf kind s) n h fits is k =
-    let same : kind ≡ kinds.Array = sym ((says bytes nodes at index key (leaf kind s) n h is).kind) ∙ k in
-    absurd (subst (λ (x : Kind). IsLeaf x s) same fits)
-array_yes bytes nodes at index key (empty shapes.Object gap) n h fits is k = absurd (apart (sym ((says bytes nodes at index key (empty shapes.Object gap) n h is).kind) ∙ k))
-  where
-    apart : kinds.Object ≡ kinds.Array → ⊥
-    apart e = cc
-array_yes bytes nodes at index key (empty shapes.Array gap) n h fits is k = (refl, [], refl)
-array_yes bytes nodes at index key (group shapes.Object ps) n h fits is k = absurd (apart (sym ((says bytes nodes at index key (group shapes.Object ps) n h is).kind) ∙ k))
-  where
-    apart : kinds.Object ≡ kinds.Array → ⊥
-    apart e = cc
-array_yes bytes nodes at index key (group shapes.Array ps) n h fits is k = (refl, elements ps, refl)
+object_array : kinds.Object ≡ kinds.Array → ⊥
+object_array e = cc
 
-pub array_no : (bytes : List ℕ) (nodes : List Node) (at index : ℕ) (key : Span) (t : Tree) (n : Node) → Stands bytes nodes at index key t → n ≡ get_or nodes index n → (n.kind ≡ kinds.Array → ⊥) → array_elements t ≡ None
-array_no bytes nodes at index key (leaf kind s) n h is k = refl
-array_no bytes nodes at index key (empty shapes.Object gap) n h is k = refl
-array_no bytes nodes at index key (empty shapes.Array gap) n h is k = absurd (k ((says bytes nodes at index key (empty shapes.Array gap) n h is).kind))
-array_no bytes nodes at index key (group shapes.Object ps) n h is k = refl
-array_no bytes nodes at index key (group shapes.Array ps) n h is k = absurd (k ((says bytes nodes at index key (group shapes.Array ps) n h is).kind))
+pub array_yes : (t : Tree) (kind : Kind) → Fits t → kind ≡ tree_kind t → kind ≡ kinds.Array → TellsArray t true
+array_yes (leaf other s) kind fits is k = absurd (subst (λ (x : Kind). IsLeaf x s) (sym is ∙ k) fits)
+array_yes (empty shapes.Object gap) kind fits is k = absurd (object_array (sym is ∙ k))
+array_yes (empty shapes.Array gap) kind fits is k = (refl, [], refl)
+array_yes (group shapes.Object ps) kind fits is k = absurd (object_array (sym is ∙ k))
+array_yes (group shapes.Array ps) kind fits is k = (refl, elements ps, refl)
+
+pub array_no : (t : Tree) (kind : Kind) → kind ≡ tree_kind t → (kind ≡ kinds.Array → ⊥) → array_elements t ≡ None
+array_no (leaf other s) kind is k = refl
+array_no (empty shapes.Object gap) kind is k = refl
+array_no (empty shapes.Array gap) kind is k = absurd (k is)
+array_no (group shapes.Object ps) kind is k = refl
+array_no (group shapes.Array ps) kind is k = absurd (k is)
 
 pub array_holds : (t : Tree) → IsArray t → Holds t
 array_holds (leaf kind s) h = h
@@ -173,30 +148,28 @@ array_holds (empty shape gap) h = tt
 array_holds (group shape ps) h = tt
 
 -- no array
-pub no_array : (con : Parts → Asked) (change : Parts → Change) (several : Bool) (bytes value : List ℕ) (nodes : List Node) (parts : List Part) (d : Document) (index : ℕ) (g : Given) (asked : Asked)
+pub no_array : (con : Parts → Asked) (change : Parts → Change) (several : Bool) (bytes value : List ℕ) (parts : List Part) (d : Document) (at : ℕ) (g : Given) (asked : Asked)
     → ((vs : Parts) (trail : List ℕ) (t : Tree) → at_value (con vs) trail t ≡ to_array (array_elements t) (act trail (change vs)))
-    → ((place : ℕ) (key : Span) (t : Tree) → Stands bytes nodes place index key t → Fits t → TellsArray t false)
-    → LeadsTo bytes nodes parts d index → GivesParts con value (Ok asked) → Decides asked several bytes value parts d (Err (refusals.Status status.PATH_MISMATCH))
-no_array con change several bytes value nodes parts d index g asked same none l gives =
+    → ((t : Tree) → IsAt bytes at t → TellsArray t false)
+    → LeadsTo bytes parts d at → GivesParts con value (Ok asked) → Decides asked several bytes value parts d (Err (refusals.Status status.PATH_MISMATCH))
+no_array con change several bytes value parts d at g asked same none l gives =
     let vs = gives_parts con value asked gives in
-    let r = leads_at parts d.tree index l.leads in
-    let x = spotted bytes nodes d r.trail r.tree index (stood bytes nodes parts d index l r) in
+    let r = leads_at bytes parts d at l.leads in
     decides_as asked (con vs.0) several bytes value parts d (Err (refusals.Status status.PATH_MISMATCH)) vs.1
     (refused (con vs.0) several bytes value parts d status.PATH_MISMATCH (reached r.trail r.tree) r.follows
-    (same vs.0 r.trail r.tree ∙ ap (λ (e : Option (List Tree)). to_array e (act r.trail (change vs.0))) (none x.at x.key r.tree x.stands x.fits)))
+    (same vs.0 r.trail r.tree ∙ ap (λ (e : Option (List Tree)). to_array e (act r.trail (change vs.0))) (none r.tree r.stands.place)))
 
 -- an array
-pub an_array : (con : Parts → Asked) (change : Parts → Change) (several : Bool) (bytes value : List ℕ) (nodes : List Node) (parts : List Part) (d : Document) (index : ℕ) (g : Given) (p : Plan) (asked : Asked)
+pub an_array : (con : Parts → Asked) (change : Parts → Change) (several : Bool) (bytes value : List ℕ) (parts : List Part) (d : Document) (at : ℕ) (g : Given) (p : Plan) (asked : Asked)
     → ((vs : Parts) (trail : List ℕ) (t : Tree) → at_value (con vs) trail t ≡ to_array (array_elements t) (act trail (change vs))) → ((vs : Parts) → Describes value g (con vs) → IsParts value g vs)
-    → ((place : ℕ) (key : Span) (t : Tree) → Stands bytes nodes place index key t → Fits t → TellsArray t true)
-    → ((trail : List ℕ) (t : Tree) (new : Parts) → Stood bytes nodes d trail t index → length parts ≡ length trail → IsArray t → IsNew value g new → Plans bytes value d trail (change new) p) → p.number ≡ None
-    → LeadsTo bytes nodes parts d index → GivesParts con value (Ok asked) → Describes value g asked → Decides asked several bytes value parts d (Ok p)
-an_array con change several bytes value nodes parts d index g p asked same new array plans number l gives describes =
+    → ((t : Tree) → IsAt bytes at t → TellsArray t true)
+    → ((trail : List ℕ) (t : Tree) (new : Parts) → StandsAt bytes d trail t at → length parts ≡ length trail → IsArray t → IsNew value g new → Plans bytes value d trail (change new) p) → p.number ≡ None
+    → LeadsTo bytes parts d at → GivesParts con value (Ok asked) → Describes value g asked → Decides asked several bytes value parts d (Ok p)
+an_array con change several bytes value parts d at g p asked same new array plans number l gives describes =
     let vs = gives_parts con value asked gives in
-    let r = leads_at parts d.tree index l.leads in
-    let st = stood bytes nodes parts d index l r in
-    let x = spotted bytes nodes d r.trail r.tree index st in
-    let a = array x.at x.key r.tree x.stands x.fits in
+    let r = leads_at bytes parts d at l.leads in
+    let st = r.stands in
+    let a = array r.tree r.stands.place in
     let w = new_of value g vs.0 (new vs.0 (subst (λ (b : Asked). Describes value g b) vs.1 describes)) in
     decides_as asked (con vs.0) several bytes value parts d (Ok p) vs.1
     (decided (con vs.0) several bytes value parts d p (reached r.trail r.tree) (plain_act r.trail (change vs.0)) r.follows
@@ -206,7 +179,7 @@ an_array con change several bytes value nodes parts d index g p asked same new a
 -- ---- parts of what the front of the path leads to
 
 -- the value that holds the one there
-pub record Outer (bytes : List ℕ) (nodes : List Node) (parts : List Part) (d : Document) (index : ℕ) : Type 0 where
+pub record Outer (bytes : List ℕ) (parts : List Part) (d : Document) (at : ℕ) : Type 0 where
   pub trail : List ℕ
   pub tree : Tree
   pub follows : Follows parts d.tree (reached trail tree)
@@ -215,13 +188,13 @@ pub record Outer (bytes : List ℕ) (nodes : List Node) (parts : List Part) (d :
   pub reaches : Reaches (above trail) d.tree (group shape inside)
   pub front : Follows (take (length parts - 1) parts) d.tree (reached (above trail) (group shape inside))
   pub few : final trail < count inside
-  pub index_is : index ≡ place (above trail) d.tree + 1 + earlier inside (final trail)
+  pub place_is : at ≡ length d.before + text_place (above trail) d.tree + 1 + value_in (final trail) inside
   pub long : length parts ≡ length (above trail) + 1
   pub indexed : ends_in_index parts ≡ true → shape ≡ shapes.Array
 
-outer_of : (bytes : List ℕ) (nodes : List Node) (parts ps : List Part) (p : Part) (d : Document) (index : ℕ) → parts ≡ p ∷ ps → LeadsTo bytes nodes parts d index → Outer bytes nodes parts d index
-outer_of bytes nodes parts ps p d index e l =
-    let r = leads_at parts d.tree index l.leads in
+outer_of : (bytes : List ℕ) (parts ps : List Part) (p : Part) (d : Document) (at : ℕ) → parts ≡ p ∷ ps → LeadsTo bytes parts d at → Outer bytes parts d at
+outer_of bytes parts ps p d at e l =
+    let r = leads_at bytes parts d at l.leads in
     let i = inner p ps d.tree r.trail r.tree (subst (λ (q : List Part). Follows q d.tree (reached r.trail r.tree)) e r.follows) in
     let front_is : take (length parts - 1) parts ≡ fronts (p ∷ ps) =
     let one : length parts ≡ suc (length ps) = ap (λ (q : List Part). length q) e in
@@ -237,90 +210,60 @@ outer_of bytes nodes parts ps p d index e l =
       reaches = reached_trail (fronts (p ∷ ps)) d.tree (above r.trail) (group i.shape i.parts) i.front;
       front = subst (λ (q : List Part). Follows q d.tree (reached (above r.trail) (group i.shape i.parts))) (sym front_is) i.front;
       few = child_few i.parts (final r.trail) r.tree i.child;
-      index_is = r.place_is ∙ i.place_is;
+      place_is = omega (arith, place_is bytes d r.trail r.tree at r.stands, i.place_is);
       long = omega (arith, trail_long parts d.tree r.trail r.tree r.follows, ap (λ (k : List ℕ). length k) i.trail_is, ap (λ (k : List ℕ). length (above k)) i.trail_is, above_long i.head i.tail);
       indexed = λ h. i.indexed (subst (λ (q : List Part). ends_in_index q ≡ true) e h);
     }
 
-pub outer : (bytes : List ℕ) (nodes : List Node) (parts : List Part) (d : Document) (index : ℕ) → 0 < length parts → LeadsTo bytes nodes parts d index → Outer bytes nodes parts d index
-outer bytes nodes [] d index some l = absurd (omega (arith, some))
-outer bytes nodes (p ∷ ps) d index some l = outer_of bytes nodes (p ∷ ps) ps p d index refl l
+pub outer : (bytes : List ℕ) (parts : List Part) (d : Document) (at : ℕ) → 0 < length parts → LeadsTo bytes parts d at → Outer bytes parts d at
+outer bytes [] d at some l = absurd (omega (arith, some))
+outer bytes (p ∷ ps) d at some l = outer_of bytes (p ∷ ps) ps p d at refl l
 
-pub outer_stood : (bytes : List ℕ) (nodes : List Node) (parts : List Part) (d : Document) (index whole : ℕ) → LeadsTo bytes nodes parts d index → (o : Outer bytes nodes parts d index) → whole ≡ place (above o.trail) d.tree → Stood bytes nodes d (above o.trail) (group o.shape o.inside) whole
-outer_stood bytes nodes parts d index whole l o e = record { is = l.is; listed = l.listed; reaches = o.reaches; index_is = e }
+-- where the one that holds it stands, its place among the parts is known
+outer_place : (bytes : List ℕ) (parts : List Part) (d : Document) (at whole : ℕ) (o : Outer bytes parts d at) → StandsAt bytes d (above o.trail) (group o.shape o.inside) whole → at ≡ whole + 1 + value_in (final o.trail) o.inside
+outer_place bytes parts d at whole o s = omega (arith, o.place_is, place_is bytes d (above o.trail) (group o.shape o.inside) whole s)
 
-pub outer_part : (bytes : List ℕ) (nodes : List Node) (parts : List Part) (d : Document) (index whole : ℕ) → LeadsTo bytes nodes parts d index → (o : Outer bytes nodes parts d index) → whole ≡ place (above o.trail) d.tree → IsPartOf bytes nodes whole index
-outer_part bytes nodes parts d index whole l o e =
-    let x = spotted bytes nodes d (above o.trail) (group o.shape o.inside) whole (outer_stood bytes nodes parts d index whole l o e) in
-    (x.at, x.key, o.shape, o.inside, final o.trail, x.stands, x.fits, o.few, omega (arith, o.index_is, e))
+outer_told : (bytes : List ℕ) (parts front : List Part) (d : Document) (at whole : ℕ) (o : Outer bytes parts d at) → front ≡ take (length parts - 1) parts → LeadsAt front bytes d (led.At whole) → StandsAt bytes d (above o.trail) (group o.shape o.inside) whole
+outer_told bytes parts front d at whole o e leads =
+    told_at bytes (take (length parts - 1) parts) d (group o.shape o.inside) (above o.trail) whole o.front (subst (λ (q : List Part). LeadsAt q bytes d (led.At whole)) e leads)
 
-pub remove_decides : (several : Bool) (bytes value : List ℕ) (nodes : List Node) (parts front : List Part) (d : Document) (index whole : ℕ) (p : Plan) (asked : Asked) → 0 < length parts → front ≡ take (length parts - 1) parts
-    → Leads front d.tree (found.At whole) → PlansRemove bytes value nodes whole index p → p.number ≡ None → LeadsTo bytes nodes parts d index → fine asked ≡ fine delete → Decides asked several bytes value parts d (Ok p)
-remove_decides several bytes value nodes parts front d index whole p asked some front_is leads plans number l gives =
-    let o = outer bytes nodes parts d index some l in
-    let place_is : whole ≡ place (above o.trail) d.tree = told_at (take (length parts - 1) parts) d.tree (group o.shape o.inside) (above o.trail) whole o.front (subst (λ (q : List Part). Leads q d.tree (found.At whole)) front_is leads) in
+pub remove_decides : (several : Bool) (bytes value : List ℕ) (parts front : List Part) (d : Document) (at whole : ℕ) (p : Plan) (asked : Asked) → 0 < length parts → front ≡ take (length parts - 1) parts
+    → LeadsAt front bytes d (led.At whole) → PlansRemove bytes value whole at p → p.number ≡ None → LeadsTo bytes parts d at → fine asked ≡ fine delete → Decides asked several bytes value parts d (Ok p)
+remove_decides several bytes value parts front d at whole p asked some front_is leads plans number l gives =
+    let o = outer bytes parts d at some l in
+    let s = outer_told bytes parts front d at whole o front_is leads in
     decides_as asked delete several bytes value parts d (Ok p) (gives_delete asked gives)
     (decided delete several bytes value parts d p (reached o.trail o.tree) (plain_act (above o.trail) (remove (final o.trail))) o.follows refl
-    (plans d (above o.trail) o.shape o.inside (final o.trail) (outer_stood bytes nodes parts d index whole l o place_is) o.few (omega (arith, o.index_is, place_is))) (sym number))
+    (plans d (above o.trail) o.shape o.inside (final o.trail) s o.few (outer_place bytes parts d at whole o s)) (sym number))
 
-pub remove_part : (bytes : List ℕ) (nodes : List Node) (parts front : List Part) (d : Document) (index whole : ℕ) → 0 < length parts → front ≡ take (length parts - 1) parts → Leads front d.tree (found.At whole) → LeadsTo bytes nodes parts d index → IsPartOf bytes nodes whole index
-remove_part bytes nodes parts front d index whole some front_is leads l =
-    let o = outer bytes nodes parts d index some l in
-    let place_is : whole ≡ place (above o.trail) d.tree = told_at (take (length parts - 1) parts) d.tree (group o.shape o.inside) (above o.trail) whole o.front (subst (λ (q : List Part). Leads q d.tree (found.At whole)) front_is leads) in
-    outer_part bytes nodes parts d index whole l o place_is
+pub remove_part : (bytes : List ℕ) (parts front : List Part) (d : Document) (at whole : ℕ) → 0 < length parts → front ≡ take (length parts - 1) parts → LeadsAt front bytes d (led.At whole) → LeadsTo bytes parts d at → IsPartOf bytes whole at
+remove_part bytes parts front d at whole some front_is leads l =
+    let o = outer bytes parts d at some l in
+    let s = outer_told bytes parts front d at whole o front_is leads in
+    (o.shape, o.inside, final o.trail, s.place, o.few, outer_place bytes parts d at whole o s)
 
 indexed_some : (parts : List Part) → ends_in_index parts ≡ true → 0 < length parts
 indexed_some [] e = cc
 indexed_some (p ∷ ps) e = omega arith
 
-pub insert_decides : (several : Bool) (bytes value : List ℕ) (nodes : List Node) (parts : List Part) (d : Document) (index : ℕ) (g : Given) (p : Plan) (asked : Asked) → ends_in_index parts ≡ true
-    → PlansInsert bytes value nodes index (length parts) g p → p.number ≡ None → LeadsTo bytes nodes parts d index → GivesParts array_insert value (Ok asked) → Describes value g asked → Decides asked several bytes value parts d (Ok p)
-insert_decides several bytes value nodes parts d index g p asked form plans number l gives describes =
+pub insert_decides : (several : Bool) (bytes value : List ℕ) (parts : List Part) (d : Document) (at : ℕ) (g : Given) (p : Plan) (asked : Asked) → ends_in_index parts ≡ true
+    → PlansInsert bytes value at (length parts) g p → p.number ≡ None → LeadsTo bytes parts d at → GivesParts array_insert value (Ok asked) → Describes value g asked → Decides asked several bytes value parts d (Ok p)
+insert_decides several bytes value parts d at g p asked form plans number l gives describes =
     let vs = gives_parts array_insert value asked gives in
     let w = new_of value g vs.0 (subst (λ (b : Asked). Describes value g b) vs.1 describes) in
-    let o = outer bytes nodes parts d index (indexed_some parts form) l in
-    let whole : ℕ = place (above o.trail) d.tree in
-    let st : Stood bytes nodes d (above o.trail) (group shapes.Array o.inside) whole = subst (λ (s : Shape). Stood bytes nodes d (above o.trail) (group s o.inside) whole) (o.indexed form) (outer_stood bytes nodes parts d index whole l o refl) in
+    let o = outer bytes parts d at (indexed_some parts form) l in
+    let whole : ℕ = length d.before + text_place (above o.trail) d.tree in
+    let s : StandsAt bytes d (above o.trail) (group o.shape o.inside) whole = stands_of bytes d (above o.trail) (group o.shape o.inside) l.is o.reaches in
+    let st : StandsAt bytes d (above o.trail) (group shapes.Array o.inside) whole = subst (λ (x : Shape). StandsAt bytes d (above o.trail) (group x o.inside) whole) (o.indexed form) s in
     decides_as asked (array_insert vs.0) several bytes value parts d (Ok p) vs.1
     (decided (array_insert vs.0) several bytes value parts d p (reached o.trail o.tree) (plain_act (above o.trail) (insert (final o.trail) vs.0)) o.follows refl
-    (plans d (above o.trail) o.inside (final o.trail) whole vs.0 st o.few o.index_is o.long w) (sym number))
+    (plans d (above o.trail) o.inside (final o.trail) whole vs.0 st o.few (outer_place bytes parts d at whole o s) o.long w) (sym number))
 
 -- ---- sets
 
 -- what is asked of the elements of an array
-pub set_no_array : (bytes : List ℕ) (nodes : List Node) (at index : ℕ) (key : Span) (t : Tree) (n : Node) (wanted : List ℕ) → Stands bytes nodes at index key t → n ≡ get_or nodes index n → (n.kind ≡ kinds.Array → ⊥) → TellsSet t wanted (Some status.PATH_MISMATCH)
-set_no_array bytes nodes at index key t n wanted s is k done = ap (λ (e : Option (List Tree)). to_set e wanted done) (array_no bytes nodes at index key t n s is k)
-
-set_empty_of : (t : Tree) (wanted : List ℕ) → TellsArray t true → array_elements t ≡ Some [] → TellsSet t wanted None
-set_empty_of t wanted a e = (a.0, λ done. ap (λ (x : Option (List Tree)). to_set x wanted done) e)
-
-count_some : (ps : Parts) → 1 ≤ count ps
-count_some (Rattle.json_model.specs.Spelled.last h t g) = omega arith
-count_some (Rattle.json_model.specs.Spelled.more h t g ps) = omega arith
-
-none_in : (bytes : List ℕ) (nodes : List Node) (at index : ℕ) (key : Span) (t : Tree) (n : Node) → Stands bytes nodes at index key t → n ≡ get_or nodes index n → IsArray t → n.children ≡ 0 → array_elements t ≡ Some []
-none_in bytes nodes at index key (leaf kind s) n h is array e = absurd array
-none_in bytes nodes at index key (empty shapes.Object gap) n h is array e = absurd (apart array)
-  where
-    apart : shapes.Object ≡ shapes.Array → ⊥
-    apart e = cc
-none_in bytes nodes at index key (empty shapes.Array gap) n h is array e = refl
-none_in bytes nodes at index key (group shape ps) n h is array e = absurd (omega (arith, (says bytes nodes at index key (group shape ps) n h is).children, e, count_some ps))
-
-pub set_empty : (bytes : List ℕ) (nodes : List Node) (at index : ℕ) (key : Span) (t : Tree) (n : Node) (wanted : List ℕ) → Stands bytes nodes at index key t → Fits t → n ≡ get_or nodes index n → n.kind ≡ kinds.Array → n.children ≡ 0 → TellsSet t wanted None
-set_empty bytes nodes at index key t n wanted s fits is k e =
-    let a = array_yes bytes nodes at index key t n s fits is k in
-    set_empty_of t wanted a (none_in bytes nodes at index key t n s is a.0 e)
-
-pub group_array : (shape : Shape) (ps : Parts) → IsArray (group shape ps) → array_elements (group shape ps) ≡ Some (elements ps)
-group_array shapes.Object ps e = absurd (apart e)
-  where
-    apart : shapes.Object ≡ shapes.Array → ⊥
-    apart e = cc
-group_array shapes.Array ps e = refl
-
-pub inside_array : (t : Tree) (shape : Shape) (ps : Parts) → t ≡ group shape ps → IsArray t → array_elements t ≡ Some (elements ps)
-inside_array t shape ps e array = ap array_elements e ∙ group_array shape ps (subst IsArray e array)
+pub set_no_array : (t : Tree) (kind : Kind) (wanted : List ℕ) → kind ≡ tree_kind t → (kind ≡ kinds.Array → ⊥) → TellsSet t wanted (Some status.PATH_MISMATCH)
+set_no_array t kind wanted is k done = ap (λ (e : Option (List Tree)). to_set e wanted done) (array_no t kind is k)
 
 pub set_groups : (t : Tree) (trees : List Tree) (wanted : List ℕ) → array_elements t ≡ Some trees → list_all is_leaf trees ≡ false → TellsSet t wanted (Some status.PATH_MISMATCH)
 set_groups t trees wanted e held done =
@@ -342,30 +285,28 @@ set_free t trees wanted array e bare has = (
       ∙ ap (λ (b : Bool). if b then Err status.PATH_EEXISTS else done) has,
 )
 
-pub set_refused : (several : Bool) (bytes value wanted : List ℕ) (nodes : List Node) (parts : List Part) (d : Document) (index : ℕ) (g : Given) (s : Status) (asked : Asked) → wanted ≡ given_bytes value g
-    → ((place : ℕ) (key : Span) (t : Tree) → Stands bytes nodes place index key t → Fits t → TellsSet t wanted (Some s))
-    → LeadsTo bytes nodes parts d index → GivesLeaf add_unique value (Ok asked) → Describes value g asked → Decides asked several bytes value parts d (Err (refusals.Status s))
-set_refused several bytes value wanted nodes parts d index g s asked cut_is why l gives describes =
+pub set_refused : (several : Bool) (bytes value wanted : List ℕ) (parts : List Part) (d : Document) (at : ℕ) (g : Given) (s : Status) (asked : Asked) → wanted ≡ given_bytes value g
+    → ((t : Tree) → IsAt bytes at t → TellsSet t wanted (Some s))
+    → LeadsTo bytes parts d at → GivesLeaf add_unique value (Ok asked) → Describes value g asked → Decides asked several bytes value parts d (Err (refusals.Status s))
+set_refused several bytes value wanted parts d at g s asked cut_is why l gives describes =
     let v = gives_leaf add_unique value asked gives in
     let w = subst (λ (b : Asked). Describes value g b) v.2 describes in
-    let r = leads_at parts d.tree index l.leads in
-    let x = spotted bytes nodes d r.trail r.tree index (stood bytes nodes parts d index l r) in
-    let e = why x.at x.key r.tree x.stands x.fits in
+    let r = leads_at bytes parts d at l.leads in
+    let e = why r.tree r.stands.place in
     let done : Result Act Status = act r.trail (push (element (leaf v.0 v.1))) in
     decides_as asked (add_unique v.0 v.1) several bytes value parts d (Err (refusals.Status s)) v.2
     (refused (add_unique v.0 v.1) several bytes value parts d s (reached r.trail r.tree) r.follows
     (ap (λ (k : List ℕ). to_set (array_elements r.tree) k done) (w.2 ∙ sym cut_is) ∙ e done))
 
-pub set_decides : (several : Bool) (bytes value wanted : List ℕ) (nodes : List Node) (parts : List Part) (d : Document) (index : ℕ) (g : Given) (p : Plan) (asked : Asked) → wanted ≡ given_bytes value g
-    → ((place : ℕ) (key : Span) (t : Tree) → Stands bytes nodes place index key t → Fits t → TellsSet t wanted None)
-    → PlansPush bytes value nodes index (length parts) g p → p.number ≡ None → LeadsTo bytes nodes parts d index → GivesLeaf add_unique value (Ok asked) → Describes value g asked → Decides asked several bytes value parts d (Ok p)
-set_decides several bytes value wanted nodes parts d index g p asked cut_is free plans number l gives describes =
+pub set_decides : (several : Bool) (bytes value wanted : List ℕ) (parts : List Part) (d : Document) (at : ℕ) (g : Given) (p : Plan) (asked : Asked) → wanted ≡ given_bytes value g
+    → ((t : Tree) → IsAt bytes at t → TellsSet t wanted None)
+    → PlansPush bytes value at (length parts) g p → p.number ≡ None → LeadsTo bytes parts d at → GivesLeaf add_unique value (Ok asked) → Describes value g asked → Decides asked several bytes value parts d (Ok p)
+set_decides several bytes value wanted parts d at g p asked cut_is free plans number l gives describes =
     let v = gives_leaf add_unique value asked gives in
     let w = subst (λ (b : Asked). Describes value g b) v.2 describes in
-    let r = leads_at parts d.tree index l.leads in
-    let st = stood bytes nodes parts d index l r in
-    let x = spotted bytes nodes d r.trail r.tree index st in
-    let e = free x.at x.key r.tree x.stands x.fits in
+    let r = leads_at bytes parts d at l.leads in
+    let st = r.stands in
+    let e = free r.tree r.stands.place in
     let new : Parts = element (leaf v.0 v.1) in
     let done : Result Act Status = act r.trail (push new) in
     decides_as asked (add_unique v.0 v.1) several bytes value parts d (Ok p) v.2
@@ -375,19 +316,19 @@ set_decides several bytes value wanted nodes parts d index g p asked cut_is free
 
 -- ---- counters
 
-pub count_decides : (several : Bool) (bytes value : List ℕ) (nodes : List Node) (parts : List Part) (d : Document) (index : ℕ) (g : Given) (r : Result Plan Rattle.doc_model.specs.declared.status.Refused.Refused) (asked : Asked)
-    → TellsCounter bytes value nodes index (length parts) g.delta r → LeadsTo bytes nodes parts d index → GivesDelta value (Ok asked) → Describes value g asked → Decides asked several bytes value parts d r
-count_decides several bytes value nodes parts d index g (Ok p) asked tells l gives describes =
+pub count_decides : (several : Bool) (bytes value : List ℕ) (parts : List Part) (d : Document) (at : ℕ) (g : Given) (r : Result Plan Rattle.doc_model.specs.declared.status.Refused.Refused) (asked : Asked)
+    → TellsCounter bytes value at (length parts) g.delta r → LeadsTo bytes parts d at → GivesDelta value (Ok asked) → Describes value g asked → Decides asked several bytes value parts d r
+count_decides several bytes value parts d at g (Ok p) asked tells l gives describes =
     let v = gives_delta value asked gives in
     let same : v.0 ≡ g.delta = subst (λ (b : Asked). Describes value g b) v.2 describes in
-    let r = leads_at parts d.tree index l.leads in
-    let h = tells d r.trail r.tree (stood bytes nodes parts d index l r) (sym (trail_long parts d.tree r.trail r.tree r.follows)) in
+    let r = leads_at bytes parts d at l.leads in
+    let h = tells d r.trail r.tree r.stands (sym (trail_long parts d.tree r.trail r.tree r.follows)) in
     decides_as asked (counter g.delta) several bytes value parts d (Ok p) (v.2 ∙ ap (λ (n : ℤ). counter n) same)
     (decided (counter g.delta) several bytes value parts d p (reached r.trail r.tree) h.0 r.follows h.1 h.2 h.3)
-count_decides several bytes value nodes parts d index g (Err (refusals.Status s)) asked tells l gives describes =
+count_decides several bytes value parts d at g (Err (refusals.Status s)) asked tells l gives describes =
     let v = gives_delta value asked gives in
     let same : v.0 ≡ g.delta = subst (λ (b : Asked). Describes value g b) v.2 describes in
-    let r = leads_at parts d.tree index l.leads in
+    let r = leads_at bytes parts d at l.leads in
     decides_as asked (counter g.delta) several bytes value parts d (Err (refusals.Status s)) (v.2 ∙ ap (λ (n : ℤ). counter n) same)
-    (refused (counter g.delta) several bytes value parts d s (reached r.trail r.tree) r.follows (tells d r.trail r.tree (stood bytes nodes parts d index l r)))
-count_decides several bytes value nodes parts d index g (Err refusals.NoMemory) asked tells l gives describes = tt
+    (refused (counter g.delta) several bytes value parts d s (reached r.trail r.tree) r.follows (tells d r.trail r.tree r.stands))
+count_decides several bytes value parts d at g (Err refusals.NoMemory) asked tells l gives describes = tt

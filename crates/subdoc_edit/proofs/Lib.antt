@@ -4,6 +4,7 @@ pub mod Looks
 pub mod Once
 pub mod Splices
 pub mod Placed
+pub mod Meeting
 pub mod Rest
 pub mod Plans
 pub mod Trails

@@ -1,30 +1,29 @@
 -- Plans are those of their changes.
-use Rattle.std.proofs.Common.{◌≡◌, ℕ, zero, suc, ◌+◌, ◌-◌, ◌<◌, ◌≤◌, max, List, [], ◌∷◌, ◌++◌, length, take, drop, get_or, Bool, false, Option, Some, inl, inr, refl, sym, ap, subst, ◌∙◌, arith, append_assoc, ℤ}
+use Rattle.std.proofs.Common.{◌≡◌, ℕ, zero, suc, ◌+◌, ◌-◌, ◌<◌, ◌≤◌, max, List, [], ◌∷◌, ◌++◌, length, take, drop, Bool, false, Option, Some, inl, inr, refl, sym, ap, ◌∙◌, arith, append_assoc, ℤ}
 use Rattle.json_model.specs.declared.TheConstants.{MOST_DEEP}
 use Rattle.std.specs.Fmt.{signed_decimal}
 use Rattle.json_model.specs.declared.kinds.Kind.TheVariants as kinds
 use Rattle.json_model.specs.declared.kinds.Shape.{Shape}
 use Rattle.json_model.specs.declared.kinds.Shape.TheVariants as shapes
-use Rattle.json_model.specs.Spelled.{Head, Tree, leaf, empty, group, Parts, last, more, text, parts_text, depth, parts_depth, count, Fits, Document}
-use Rattle.json_model.specs.Follow.{child, earlier}
-use Rattle.json_model.specs.Moves.{Change, put, push, insert, remove, at_trail, changed, gap_before, without, with_pushed, with_inserted, with_removed}
+use Rattle.json_model.specs.Spelled.{Head, Tree, leaf, empty, group, Parts, last, more, text, parts_text, depth, parts_depth, count, Document}
+use Rattle.json_model.specs.Follow.{child}
+use Rattle.json_model.specs.Moves.{Change, put, push, insert, remove, changed, gap_before, without, with_pushed, with_inserted, with_removed}
 use Rattle.json_model.specs.Splices.{Reaches, here, there}
 use Rattle.json_model.specs.Edit.{member, nested}
 use Rattle.json_model.proofs.Depths.{Both, trail_depth, led_depth, ended_depth, pushed_depth, inserted_depth}
-use Rattle.json_spell.specs.declared.node.Node.{Node}
 use Rattle.json_spell.specs.declared.node.Span.{Span}
-use Rattle.subdoc_path.specs.Standing.{Stands}
+use Rattle.json_walk.specs.Places.{IsAt}
+use Rattle.json_walk.specs.Telling.{tree_end}
+use Rattle.subdoc_path.specs.Led.{StandsAt}
 use Rattle.subdoc_edit.specs.declared.values.Given.{Given}
 use Rattle.subdoc_edit.specs.declared.parents.Around.{Around}
 use Rattle.subdoc_edit.specs.declared.places.Gap.{Gap}
 use Rattle.subdoc_edit.specs.declared.plan.Plan.{Plan}
 use Rattle.subdoc_edit.specs.declared.plan.Content.{Content}
-use Rattle.subdoc_edit.specs.Splicing.{Spliced, Holds, IsArray, comma_if, EndsAt, BeginsAt, CutsAt}
+use Rattle.subdoc_edit.specs.Splicing.{Spliced, Holds, IsArray, comma_if, EndsAt, BeginsAt, CutsAt, value_in}
 use Rattle.subdoc_edit.specs.Numbers.{IsNumberPlan}
-use Rattle.subdoc_edit.specs.Planning.{plan_bytes, changed_text, Plans, Stood, IsNew, IsWritten, IsContent, bracket_before, bracket_behind}
-use Rattle.subdoc_edit.proofs.Pieces.{says}
+use Rattle.subdoc_edit.specs.Planning.{plan_bytes, changed_text, Plans, IsNew, IsWritten, IsContent, bracket_before, bracket_behind}
 use Rattle.subdoc_edit.proofs.Splices.{spliced_as}
-use Rattle.subdoc_edit.proofs.Spots.{Spot, spot_of, document_with}
 use Rattle.subdoc_edit.proofs.Placed.{insert_at}
 
 -- ---- depths
@@ -73,20 +72,19 @@ pub record Puts (bytes value new : List ℕ) (p : Plan) : Type 0 where
   pub ordered : p.value_from ≤ p.value_to
   pub within : p.value_to ≤ length value
 
-plan_at : (bytes value : List ℕ) (nodes : List Node) (d : Document) (trail : List ℕ) (t : Tree) (index : ℕ) (c : Change) (p : Plan) → Stood bytes nodes d trail t index
-    → ((at : ℕ) (key : Span) (s : Stands bytes nodes at index key t) → Fits t → p.depth ≤ MOST_DEEP → Puts bytes value (s.front ++ (text (changed c t) ++ s.back)) p)
+plan_at : (bytes value : List ℕ) (d : Document) (trail : List ℕ) (t : Tree) (at : ℕ) (c : Change) (p : Plan) → StandsAt bytes d trail t at
+    → ((s : IsAt bytes at t) → p.depth ≤ MOST_DEEP → Puts bytes value (s.front ++ (text (changed c t) ++ s.back)) p)
     → (length trail + depth t ≤ MOST_DEEP → Both (length trail + depth (changed c t) ≤ MOST_DEEP) (p.depth ≤ MOST_DEEP)) → Plans bytes value d trail c p
-plan_at bytes value nodes d trail t index c p st writes deep =
-    let spot : Spot bytes nodes (λ f. document_with d (at_trail trail f)) index t = subst (λ (i : ℕ). Spot bytes nodes (λ f. document_with d (at_trail trail f)) i t) (sym st.index_is) (spot_of bytes nodes d trail t st.is st.listed st.reaches) in
+plan_at bytes value d trail t at c p st writes deep =
     let both = trail_depth trail d.tree t (changed c) MOST_DEEP st.reaches st.is.depth in
     let told = deep (omega (arith, below trail d.tree t st.reaches, st.is.depth)) in
     record {
       shallow = λ less. both.back (told.back less);
       only = λ less. told.forth (both.forth less);
       writes = λ less.
-          let w = writes spot.at spot.key spot.stands spot.fits less in
+          let w = writes st.place less in
           record {
-            spliced = spliced_as bytes (spot.stands.front ++ (text (changed c t) ++ spot.stands.back)) (plan_bytes value p) bytes (changed_text d trail c) (plan_bytes value p) p.from p.to w.spliced refl (spot.changes (changed c)) refl;
+            spliced = spliced_as bytes (st.place.front ++ (text (changed c t) ++ st.place.back)) (plan_bytes value p) bytes (changed_text d trail c) (plan_bytes value p) p.from p.to w.spliced refl (st.spliced (changed c)) refl;
             ordered = w.ordered;
             within = w.within;
           };
@@ -106,13 +104,12 @@ bare c value l m v w b e f =
     ap (λ (x : List ℕ). x ++ (cut value c.from c.to ++ m)) e ∙ ap (λ (x : List ℕ). cut value c.from c.to ++ x) f
     ∙ sym (w.text_is ∙ ap (λ (x : Bool). bracket_before x ++ (cut value c.from c.to ++ bracket_behind x)) b)
 
-pub put_plan : (bytes value before behind : List ℕ) (nodes : List Node) (d : Document) (trail : List ℕ) (t v : Tree) (index followed : ℕ) (c : Content) (n : Node) → before ≡ [] → behind ≡ [] → c.listed ≡ false → n ≡ get_or nodes index n
-    → Stood bytes nodes d trail t index → followed ≡ length trail → IsContent value c v
-    → Plans bytes value d trail (put v) (record { from = n.from; to = n.to; before = before; value_from = c.from; value_to = c.to; behind = behind; depth = followed + c.depth; number = c.number })
-put_plan bytes value before behind nodes d trail t v index followed c n e f b is st long (inl w) =
-    plan_at bytes value nodes d trail t index (put v) (record { from = n.from; to = n.to; before = before; value_from = c.from; value_to = c.to; behind = behind; depth = followed + c.depth; number = c.number }) st
-    (λ at key s fits less.
-    let x = says bytes nodes at index key t n s is in
+pub put_plan : (bytes value before behind : List ℕ) (d : Document) (trail : List ℕ) (t v : Tree) (at followed : ℕ) (c : Content) (end : ℕ) → before ≡ [] → behind ≡ [] → c.listed ≡ false → ((u : Tree) → IsAt bytes at u → end ≡ tree_end at u)
+    → StandsAt bytes d trail t at → followed ≡ length trail → IsContent value c v
+    → Plans bytes value d trail (put v) (record { from = at; to = end; before = before; value_from = c.from; value_to = c.to; behind = behind; depth = followed + c.depth; number = c.number })
+put_plan bytes value before behind d trail t v at followed c end e f b is st long (inl w) =
+    plan_at bytes value d trail t at (put v) (record { from = at; to = end; before = before; value_from = c.from; value_to = c.to; behind = behind; depth = followed + c.depth; number = c.number }) st
+    (λ s less.
     record {
       spliced = record {
         front = s.front;
@@ -120,22 +117,22 @@ put_plan bytes value before behind nodes d trail t v index followed c n e f b is
         back = s.back;
         was = s.spelled;
         is = ap (λ (l : List ℕ). s.front ++ (l ++ s.back)) (sym (bare c value before behind v w b e f));
-        from_is = x.from ∙ sym s.at_is;
-        to_is = omega (arith, x.to, s.at_is);
+        from_is = sym s.at_is;
+        to_is = omega (arith, is t s, s.at_is);
       };
       ordered = w.ordered;
       within = w.within;
     })
     (λ less. record { forth = λ h. omega (arith, h, long, w.depth_is); back = λ h. omega (arith, h, long, w.depth_is) })
-put_plan bytes value before behind nodes d trail t v index followed c n e f b is st long (inr w) =
-    plan_at bytes value nodes d trail t index (put v) (record { from = n.from; to = n.to; before = before; value_from = c.from; value_to = c.to; behind = behind; depth = followed + c.depth; number = c.number }) st
-    (λ at key s fits less. absurd (omega (arith, less, w.1)))
+put_plan bytes value before behind d trail t v at followed c end e f b is st long (inr w) =
+    plan_at bytes value d trail t at (put v) (record { from = at; to = end; before = before; value_from = c.from; value_to = c.to; behind = behind; depth = followed + c.depth; number = c.number }) st
+    (λ s less. absurd (omega (arith, less, w.1)))
     (λ less. record { forth = λ h. absurd (omega (arith, h, w.0)); back = λ h. absurd (omega (arith, h, w.1)) })
 
 -- a number of its own in place of another value
-pub number_plan : (bytes value : List ℕ) (nodes : List Node) (d : Document) (trail : List ℕ) (t : Tree) (index followed : ℕ) (n : Node) (number : ℤ) (p : Plan) → n ≡ get_or nodes index n → IsNumberPlan n followed number p
-    → Stood bytes nodes d trail t index → followed ≡ length trail → Plans bytes value d trail (put (leaf kinds.Number (signed_decimal number))) p
-number_plan bytes value nodes d trail t index followed n number p is same st long =
+pub number_plan : (bytes value : List ℕ) (d : Document) (trail : List ℕ) (t : Tree) (at followed end : ℕ) (number : ℤ) (p : Plan) → ((u : Tree) → IsAt bytes at u → end ≡ tree_end at u) → IsNumberPlan (record { from = at; to = end }) followed number p
+    → StandsAt bytes d trail t at → followed ≡ length trail → Plans bytes value d trail (put (leaf kinds.Number (signed_decimal number))) p
+number_plan bytes value d trail t at followed end number p is same st long =
     let new : List ℕ = signed_decimal number in
     let these : plan_bytes value p ≡ new =
     ap (λ (l : List ℕ). l ++ (take (p.value_to - p.value_from) (drop p.value_from value) ++ p.behind)) same.before_is
@@ -143,9 +140,8 @@ number_plan bytes value nodes d trail t index followed n number p is same st lon
     ∙ ap (λ (k : ℕ). new ++ (take (0 - k) (drop k value) ++ p.behind)) same.value_from_is
     ∙ ap (λ (l : List ℕ). new ++ l) same.behind_is ∙ no_more new
     in
-    plan_at bytes value nodes d trail t index (put (leaf kinds.Number new)) p st
-    (λ at key s fits less.
-    let x = says bytes nodes at index key t n s is in
+    plan_at bytes value d trail t at (put (leaf kinds.Number new)) p st
+    (λ s less.
     record {
       spliced = record {
         front = s.front;
@@ -153,8 +149,8 @@ number_plan bytes value nodes d trail t index followed n number p is same st lon
         back = s.back;
         was = s.spelled;
         is = ap (λ (l : List ℕ). s.front ++ (l ++ s.back)) (sym these);
-        from_is = same.from_is ∙ x.from ∙ sym s.at_is;
-        to_is = omega (arith, same.to_is, x.to, s.at_is);
+        from_is = same.from_is ∙ sym s.at_is;
+        to_is = omega (arith, same.to_is, is t s, s.at_is);
       };
       ordered = omega (arith, same.value_from_is);
       within = omega (arith, same.value_to_is);
@@ -168,15 +164,15 @@ push_bytes g value before behind comma new w e f =
     ap (λ (x : List ℕ). x ++ (cut value g.from g.to ++ behind)) e
     ∙ ap (λ (x : List ℕ). comma ++ (cut value g.from g.to ++ x)) f ∙ ap (λ (x : List ℕ). comma ++ x) (no_more (cut value g.from g.to) ∙ sym w.text_is)
 
-pub push_plan : (bytes value before behind : List ℕ) (nodes : List Node) (d : Document) (trail : List ℕ) (t : Tree) (new : Parts) (index followed : ℕ) (g : Given) (gap : Gap) (number : Option ℤ) → before ≡ comma_if gap.comma → behind ≡ [] → EndsAt bytes nodes index gap
-    → Stood bytes nodes d trail t index → followed ≡ length trail → Holds t → IsNew value g new
+pub push_plan : (bytes value before behind : List ℕ) (d : Document) (trail : List ℕ) (t : Tree) (new : Parts) (at followed : ℕ) (g : Given) (gap : Gap) (number : Option ℤ) → before ≡ comma_if gap.comma → behind ≡ [] → EndsAt bytes at gap
+    → StandsAt bytes d trail t at → followed ≡ length trail → Holds t → IsNew value g new
     → Plans bytes value d trail (push new) (record { from = gap.at; to = gap.at; before = before; value_from = g.from; value_to = g.to; behind = behind; depth = followed + 1 + g.depth; number = number })
-push_plan bytes value before behind nodes d trail t new index followed g gap number e f ends st long holds w =
-    plan_at bytes value nodes d trail t index (push new) (record { from = gap.at; to = gap.at; before = before; value_from = g.from; value_to = g.to; behind = behind; depth = followed + 1 + g.depth; number = number }) st
-    (λ at key s fits less.
+push_plan bytes value before behind d trail t new at followed g gap number e f ends st long holds w =
+    plan_at bytes value d trail t at (push new) (record { from = gap.at; to = gap.at; before = before; value_from = g.from; value_to = g.to; behind = behind; depth = followed + 1 + g.depth; number = number }) st
+    (λ s less.
     let new_text : List ℕ = s.front ++ (text (with_pushed new t) ++ s.back) in
     record {
-      spliced = spliced_as bytes new_text (comma_if gap.comma ++ parts_text new) bytes new_text (before ++ (cut value g.from g.to ++ behind)) gap.at gap.at (ends at key t s fits holds new w.trimmed) refl refl (push_bytes g value before behind (comma_if gap.comma) new w e f);
+      spliced = spliced_as bytes new_text (comma_if gap.comma ++ parts_text new) bytes new_text (before ++ (cut value g.from g.to ++ behind)) gap.at gap.at (ends t s holds new w.trimmed) refl refl (push_bytes g value before behind (comma_if gap.comma) new w e f);
       ordered = w.cut.ordered;
       within = w.cut.within;
     })
@@ -189,15 +185,15 @@ front_bytes g value before behind comma new w e f =
     ap (λ (x : List ℕ). x ++ (cut value g.from g.to ++ behind)) e
     ∙ ap (λ (x : List ℕ). cut value g.from g.to ++ x) f ∙ ap (λ (x : List ℕ). x ++ comma) (sym w.text_is)
 
-pub front_plan : (bytes value before behind : List ℕ) (nodes : List Node) (d : Document) (trail : List ℕ) (t : Tree) (new : Parts) (index followed : ℕ) (g : Given) (gap : Gap) (number : Option ℤ) → before ≡ [] → behind ≡ comma_if gap.comma → BeginsAt bytes nodes index gap
-    → Stood bytes nodes d trail t index → followed ≡ length trail → IsArray t → IsNew value g new
+pub front_plan : (bytes value before behind : List ℕ) (d : Document) (trail : List ℕ) (t : Tree) (new : Parts) (at followed : ℕ) (g : Given) (gap : Gap) (number : Option ℤ) → before ≡ [] → behind ≡ comma_if gap.comma → BeginsAt bytes at gap
+    → StandsAt bytes d trail t at → followed ≡ length trail → IsArray t → IsNew value g new
     → Plans bytes value d trail (insert 0 new) (record { from = gap.at; to = gap.at; before = before; value_from = g.from; value_to = g.to; behind = behind; depth = followed + 1 + g.depth; number = number })
-front_plan bytes value before behind nodes d trail t new index followed g gap number e f begins st long array w =
-    plan_at bytes value nodes d trail t index (insert 0 new) (record { from = gap.at; to = gap.at; before = before; value_from = g.from; value_to = g.to; behind = behind; depth = followed + 1 + g.depth; number = number }) st
-    (λ at key s fits less.
+front_plan bytes value before behind d trail t new at followed g gap number e f begins st long array w =
+    plan_at bytes value d trail t at (insert 0 new) (record { from = gap.at; to = gap.at; before = before; value_from = g.from; value_to = g.to; behind = behind; depth = followed + 1 + g.depth; number = number }) st
+    (λ s less.
     let new_text : List ℕ = s.front ++ (text (with_inserted 0 new t) ++ s.back) in
     record {
-      spliced = spliced_as bytes new_text (parts_text new ++ comma_if gap.comma) bytes new_text (before ++ (cut value g.from g.to ++ behind)) gap.at gap.at (begins at key t s fits array new w.trimmed) refl refl (front_bytes g value before behind (comma_if gap.comma) new w e f);
+      spliced = spliced_as bytes new_text (parts_text new ++ comma_if gap.comma) bytes new_text (before ++ (cut value g.from g.to ++ behind)) gap.at gap.at (begins t s array new w.trimmed) refl refl (front_bytes g value before behind (comma_if gap.comma) new w e f);
       ordered = w.cut.ordered;
       within = w.cut.within;
     })
@@ -205,15 +201,15 @@ front_plan bytes value before behind nodes d trail t new index followed g gap nu
     let b = insert_deep (length trail) 0 new t array less in
     record { forth = λ h. omega (arith, b.forth h, long, w.depth_is); back = λ h. b.back (omega (arith, h, long, w.depth_is)) })
 
-pub insert_plan : (bytes value before behind : List ℕ) (nodes : List Node) (d : Document) (trail : List ℕ) (ps : Parts) (k whole : ℕ) (new : Parts) (index followed : ℕ) (g : Given) (n : Node) (number : Option ℤ) → before ≡ [] → behind ≡ 0x2c ∷ [] → n ≡ get_or nodes index n
-    → Stood bytes nodes d trail (group shapes.Array ps) whole → k < count ps → index ≡ whole + 1 + earlier ps k → followed ≡ length trail + 1 → IsNew value g new
-    → Plans bytes value d trail (insert k new) (record { from = n.from; to = n.from; before = before; value_from = g.from; value_to = g.to; behind = behind; depth = followed + g.depth; number = number })
-insert_plan bytes value before behind nodes d trail ps k whole new index followed g n number e f is st few i long w =
-    plan_at bytes value nodes d trail (group shapes.Array ps) whole (insert k new) (record { from = n.from; to = n.from; before = before; value_from = g.from; value_to = g.to; behind = behind; depth = followed + g.depth; number = number }) st
-    (λ at key s fits less.
+pub insert_plan : (bytes value before behind : List ℕ) (d : Document) (trail : List ℕ) (ps : Parts) (k whole : ℕ) (new : Parts) (at followed : ℕ) (g : Given) (number : Option ℤ) → before ≡ [] → behind ≡ 0x2c ∷ []
+    → StandsAt bytes d trail (group shapes.Array ps) whole → k < count ps → at ≡ whole + 1 + value_in k ps → followed ≡ length trail + 1 → IsNew value g new
+    → Plans bytes value d trail (insert k new) (record { from = at; to = at; before = before; value_from = g.from; value_to = g.to; behind = behind; depth = followed + g.depth; number = number })
+insert_plan bytes value before behind d trail ps k whole new at followed g number e f st few i long w =
+    plan_at bytes value d trail (group shapes.Array ps) whole (insert k new) (record { from = at; to = at; before = before; value_from = g.from; value_to = g.to; behind = behind; depth = followed + g.depth; number = number }) st
+    (λ s less.
     let new_text : List ℕ = s.front ++ (text (with_inserted k new (group shapes.Array ps)) ++ s.back) in
     record {
-      spliced = spliced_as bytes new_text (parts_text new ++ 0x2c ∷ []) bytes new_text (before ++ (cut value g.from g.to ++ behind)) n.from n.from (insert_at bytes nodes at whole key ps s fits k index few i n is new w.trimmed) refl refl (front_bytes g value before behind (0x2c ∷ []) new w e f);
+      spliced = spliced_as bytes new_text (parts_text new ++ 0x2c ∷ []) bytes new_text (before ++ (cut value g.from g.to ++ behind)) at at (insert_at bytes whole ps s k at few i new w.trimmed) refl refl (front_bytes g value before behind (0x2c ∷ []) new w e f);
       ordered = w.cut.ordered;
       within = w.cut.within;
     })
@@ -223,15 +219,15 @@ insert_plan bytes value before behind nodes d trail ps k whole new index followe
 
 -- ---- a part gone
 
-pub remove_plan : (bytes value before behind : List ℕ) (nodes : List Node) (d : Document) (trail : List ℕ) (shape : Shape) (ps : Parts) (k whole index : ℕ) (span : Span) (number : Option ℤ) → before ≡ [] → behind ≡ [] → CutsAt bytes nodes whole index span
-    → Stood bytes nodes d trail (group shape ps) whole → k < count ps → index ≡ whole + 1 + earlier ps k
+pub remove_plan : (bytes value before behind : List ℕ) (d : Document) (trail : List ℕ) (shape : Shape) (ps : Parts) (k whole at : ℕ) (span : Span) (number : Option ℤ) → before ≡ [] → behind ≡ [] → CutsAt bytes whole at span
+    → StandsAt bytes d trail (group shape ps) whole → k < count ps → at ≡ whole + 1 + value_in k ps
     → Plans bytes value d trail (remove k) (record { from = span.from; to = span.to; before = before; value_from = 0; value_to = 0; behind = behind; depth = 0; number = number })
-remove_plan bytes value before behind nodes d trail shape ps k whole index span number e f cuts st few i =
-    plan_at bytes value nodes d trail (group shape ps) whole (remove k) (record { from = span.from; to = span.to; before = before; value_from = 0; value_to = 0; behind = behind; depth = 0; number = number }) st
-    (λ at key s fits less.
+remove_plan bytes value before behind d trail shape ps k whole at span number e f cuts st few i =
+    plan_at bytes value d trail (group shape ps) whole (remove k) (record { from = span.from; to = span.to; before = before; value_from = 0; value_to = 0; behind = behind; depth = 0; number = number }) st
+    (λ s less.
     let new_text : List ℕ = s.front ++ (text (with_removed k (group shape ps)) ++ s.back) in
     record {
-      spliced = spliced_as bytes new_text [] bytes new_text (before ++ (cut value 0 0 ++ behind)) span.from span.to (cuts at key shape ps k s fits few i) refl refl (ap (λ (x : List ℕ). x ++ (cut value 0 0 ++ behind)) e ∙ f);
+      spliced = spliced_as bytes new_text [] bytes new_text (before ++ (cut value 0 0 ++ behind)) span.from span.to (cuts shape ps k s few i) refl refl (ap (λ (x : List ℕ). x ++ (cut value 0 0 ++ behind)) e ∙ f);
       ordered = omega arith;
       within = omega arith;
     })
@@ -242,13 +238,13 @@ remove_plan bytes value before behind nodes d trail shape ps k whole index span 
 member_pieces : (comma a o l c b : List ℕ) → (comma ++ (a ++ o)) ++ (l ++ (c ++ b)) ≡ comma ++ (a ++ ((o ++ (l ++ c)) ++ b))
 member_pieces comma a o l c b = simp append_assoc
 
-pub member_plan : (bytes value before behind : List ℕ) (nodes : List Node) (d : Document) (trail : List ℕ) (t v : Tree) (name : List ℕ) (names : List (List ℕ)) (index total : ℕ) (a : Around) (c : Content) (gap : Gap) → before ≡ comma_if gap.comma ++ (a.before ++ bracket_before c.listed) → behind ≡ bracket_behind c.listed ++ a.behind → EndsAt bytes nodes index gap
-    → Stood bytes nodes d trail t index → total ≡ length trail + (1 + length names) → Holds t → IsContent value c v → ((u : Tree) → parts_text (member name (nested names u)) ≡ a.before ++ (text u ++ a.behind))
+pub member_plan : (bytes value before behind : List ℕ) (d : Document) (trail : List ℕ) (t v : Tree) (name : List ℕ) (names : List (List ℕ)) (at total : ℕ) (a : Around) (c : Content) (gap : Gap) → before ≡ comma_if gap.comma ++ (a.before ++ bracket_before c.listed) → behind ≡ bracket_behind c.listed ++ a.behind → EndsAt bytes at gap
+    → StandsAt bytes d trail t at → total ≡ length trail + (1 + length names) → Holds t → IsContent value c v → ((u : Tree) → parts_text (member name (nested names u)) ≡ a.before ++ (text u ++ a.behind))
     → Plans bytes value d trail (push (member name (nested names v))) (record { from = gap.at; to = gap.at; before = before; value_from = c.from; value_to = c.to; behind = behind; depth = total + c.depth; number = c.number })
-member_plan bytes value before behind nodes d trail t v name names index total a c gap e f ends st long holds (inl w) round =
+member_plan bytes value before behind d trail t v name names at total a c gap e f ends st long holds (inl w) round =
     let new : Parts = member name (nested names v) in
-    plan_at bytes value nodes d trail t index (push new) (record { from = gap.at; to = gap.at; before = before; value_from = c.from; value_to = c.to; behind = behind; depth = total + c.depth; number = c.number }) st
-    (λ at key s fits less.
+    plan_at bytes value d trail t at (push new) (record { from = gap.at; to = gap.at; before = before; value_from = c.from; value_to = c.to; behind = behind; depth = total + c.depth; number = c.number }) st
+    (λ s less.
     let new_text : List ℕ = s.front ++ (text (with_pushed new t) ++ s.back) in
     let middle : List ℕ = cut value c.from c.to in
     let same : before ++ (middle ++ behind) ≡ comma_if gap.comma ++ parts_text new =
@@ -259,7 +255,7 @@ member_plan bytes value before behind nodes d trail t v name names index total a
     ∙ ap (λ (x : List ℕ). comma_if gap.comma ++ x) (sym (round v))
     in
     record {
-      spliced = spliced_as bytes new_text (comma_if gap.comma ++ parts_text new) bytes new_text (before ++ (middle ++ behind)) gap.at gap.at (ends at key t s fits holds new (record { led_is = refl; ended_is = refl })) refl refl same;
+      spliced = spliced_as bytes new_text (comma_if gap.comma ++ parts_text new) bytes new_text (before ++ (middle ++ behind)) gap.at gap.at (ends t s holds new (record { led_is = refl; ended_is = refl })) refl refl same;
       ordered = w.ordered;
       within = w.within;
     })
@@ -267,10 +263,10 @@ member_plan bytes value before behind nodes d trail t v name names index total a
     let b = push_deep (length trail) new t holds less in
     let deep : parts_depth new ≡ length names + c.depth = nested_deep names v ∙ ap (λ (n : ℕ). length names + n) w.depth_is in
     record { forth = λ h. omega (arith, b.forth h, long, deep); back = λ h. b.back (omega (arith, h, long, deep)) })
-member_plan bytes value before behind nodes d trail t v name names index total a c gap e f ends st long holds (inr w) round =
+member_plan bytes value before behind d trail t v name names at total a c gap e f ends st long holds (inr w) round =
     let new : Parts = member name (nested names v) in
-    plan_at bytes value nodes d trail t index (push new) (record { from = gap.at; to = gap.at; before = before; value_from = c.from; value_to = c.to; behind = behind; depth = total + c.depth; number = c.number }) st
-    (λ at key s fits less. absurd (omega (arith, less, w.1)))
+    plan_at bytes value d trail t at (push new) (record { from = gap.at; to = gap.at; before = before; value_from = c.from; value_to = c.to; behind = behind; depth = total + c.depth; number = c.number }) st
+    (λ s less. absurd (omega (arith, less, w.1)))
     (λ less.
     let b = push_deep (length trail) new t holds less in
     let deep : parts_depth new ≡ length names + depth v = nested_deep names v in

@@ -1,94 +1,142 @@
--- Parts looked at one by one.
-use Rattle.std.proofs.Common.{◌≡◌, ℕ, nat_eq, ◌+◌, ◌<◌, ◌≤◌, List, [], ◌∷◌, length, get_or, Bool, true, false, ◌&&◌, ◌||◌, ◌⊎◌, inl, inr, refl, sym, ap, subst, ◌∙◌, arith}
+-- Elements of an array looked at one by one.
+use Rattle.std.proofs.Common.{◌≡◌, ℕ, nat_eq, ◌+◌, List, [], ◌∷◌, length, Bool, true, false, ◌&&◌, ◌||◌, None, Some, refl, sym, ap, subst, ◌∙◌}
 use Rattle.std.specs.List.{list_all, list_any}
 use Rattle.std.specs.Cmp.Lexicographic.{pointwise}
-use Rattle.json_spell.specs.declared.node.Node.{Node}
-use Rattle.json_spell.specs.declared.node.Span.{Span}
-use Rattle.json_model.specs.declared.kinds.Shape.{Shape}
-use Rattle.json_model.specs.Spelled.{Tree, leaf, empty, group, Parts, last, more, text, head_text, Fits, count, size}
-use Rattle.json_model.specs.Edit.{elements, is_leaf}
-use Rattle.subdoc_path.specs.Standing.{Stands, StandsParts}
-use Rattle.subdoc_path.proofs.Walking.{first_node, next_parts}
-use Rattle.subdoc_path.proofs.Following.{stands_child}
+use Rattle.json_model.specs.declared.kinds.Kind.{Kind}
+use Rattle.json_model.specs.declared.kinds.Shape.TheVariants as shapes
+use Rattle.json_model.specs.Spelled.{Tree, leaf, empty, group, Parts, last, more, text, Fits}
+use Rattle.json_model.specs.Edit.{elements, array_elements, is_leaf}
+use Rattle.json_walk.specs.declared.places.PartAt.{PartAt}
+use Rattle.json_walk.specs.Places.{IsAt, ArePartsAt}
+use Rattle.json_walk.specs.Telling.{tree_kind, tree_end, first_tree, part_at, end_at, parts_behind, told, part_of}
+use Rattle.json_walk.proofs.Standing.{first_value, inside, behind_comma}
 use Rattle.subdoc_edit.specs.Kinds.{holds_others}
-use Rattle.subdoc_edit.proofs.Pieces.{Says, says}
 use Rattle.subdoc_edit.proofs.Looks.{shape_holds, leaf_holds}
 
--- what is asked of all parts is what is asked of those that are left
-abbrev pub Rest : (List Tree → Bool) → List ℕ → List Node → Shape → Parts → ℕ → ℕ → Type 0
-Rest h bytes nodes shape ps done next =
-    ((at : ℕ) × (qs : Parts) × StandsParts bytes nodes at next shape qs × (done + count qs ≡ count ps) × (h (elements ps) ≡ h (elements qs)))
-    ⊎ ((done ≡ count ps) × (h (elements ps) ≡ h []))
+-- the elements behind the first one
+abbrev pub behind : Parts → List Tree
+behind (last h t g) = []
+behind (more h t g ps) = elements ps
 
-pub rest_none : (h : List Tree → Bool) (bytes : List ℕ) (nodes : List Node) (at from : ℕ) (shape : Shape) (ps : Parts) → StandsParts bytes nodes at from shape ps → Rest h bytes nodes shape ps 0 from
-rest_none h bytes nodes at from shape ps s = inl (at, ps, s, omega arith, refl)
+pub elements_first : (ps : Parts) → elements ps ≡ first_tree ps ∷ behind ps
+elements_first (last h t g) = refl
+elements_first (more h t g ps) = refl
 
-some : (ps : Parts) → 1 ≤ count ps
-some (last h t g) = omega arith
-some (more h t g ps) = omega arith
+-- ---- the first one
 
-pub rest_all : (h : List Tree → Bool) (bytes : List ℕ) (nodes : List Node) (shape : Shape) (ps : Parts) (done next : ℕ) → Rest h bytes nodes shape ps done next → done ≡ count ps → h (elements ps) ≡ h []
-rest_all h bytes nodes shape ps done next (inl (at, qs, s, c, e)) all = absurd (omega (arith, c, all, some qs))
-rest_all h bytes nodes shape ps done next (inr r) all = r.1
+none_trees : (trees : List Tree) → None ≡ Some trees → ⊥
+none_trees trees e = cc
 
-pub rest_there : (h : List Tree → Bool) (bytes : List ℕ) (nodes : List Node) (shape : Shape) (ps : Parts) (done next : ℕ) → Rest h bytes nodes shape ps done next → done < count ps → next < length nodes
-rest_there h bytes nodes shape ps done next (inl (at, qs, s, c, e)) less = (first_node bytes nodes at next shape qs s).within
-rest_there h bytes nodes shape ps done next (inr r) less = absurd (omega (arith, r.0, less))
+none_part : (p : PartAt) → None ≡ Some p → ⊥
+none_part p e = cc
 
--- the first of the parts that are left
-pub record Front (h : List Tree → Bool) (bytes : List ℕ) (nodes : List Node) (next : ℕ) (n : Node) (ps : Parts) : Type 0 where
-  pub tree : Tree
-  pub left : List Tree
-  pub at : ℕ
-  pub key : Span
-  pub stands : Stands bytes nodes at next key tree
-  pub fits : Fits tree
-  pub says : Says n at next tree
-  pub asked : h (elements ps) ≡ h (tree ∷ left)
+some_part : (p q : PartAt) → Some p ≡ Some q → p ≡ q
+some_part p q e = cc
 
-front_of : (h : List Tree → Bool) (bytes : List ℕ) (nodes : List Node) (at next : ℕ) (shape : Shape) (ps qs : Parts) (n : Node) → StandsParts bytes nodes at next shape qs → n ≡ get_or nodes next n → h (elements ps) ≡ h (elements qs) → Front h bytes nodes next n ps
-front_of h bytes nodes at next shape ps (last d t g) n s is e =
-    let x = stands_child bytes nodes at next next shape (last d t g) 0 t s refl (omega arith) in
-    record { tree = t; left = []; at = x.at; key = x.key; stands = x.stands; fits = x.fits; says = says bytes nodes x.at next x.key t n x.stands is; asked = e }
-front_of h bytes nodes at next shape ps (more d t g qs) n s is e =
-    let x = stands_child bytes nodes at next next shape (more d t g qs) 0 t s refl (omega arith) in
-    record { tree = t; left = elements qs; at = x.at; key = x.key; stands = x.stands; fits = x.fits; says = says bytes nodes x.at next x.key t n x.stands is; asked = e }
+some_none : (p : PartAt) → Some p ≡ None → ⊥
+some_none p e = cc
 
-pub rest_front : (h : List Tree → Bool) (bytes : List ℕ) (nodes : List Node) (shape : Shape) (ps : Parts) (done next : ℕ) (n : Node) → Rest h bytes nodes shape ps done next → done < count ps → n ≡ get_or nodes next n → Front h bytes nodes next n ps
-rest_front h bytes nodes shape ps done next n (inl (at, qs, s, c, e)) less is = front_of h bytes nodes at next shape ps qs n s is e
-rest_front h bytes nodes shape ps done next n (inr r) less is = absurd (omega (arith, r.0, less))
+some_trees : (trees others : List Tree) → Some trees ≡ Some others → trees ≡ others
+some_trees trees others e = cc
 
-next_rest : (h : List Tree → Bool) (bytes : List ℕ) (nodes : List Node) (at next : ℕ) (shape : Shape) (ps qs : Parts) (done : ℕ) (n : Node) → StandsParts bytes nodes at next shape qs → done + count qs ≡ count ps → n ≡ get_or nodes next n → h (elements ps) ≡ h (elements qs)
-    → ((t : Tree) (ts : List Tree) (a : ℕ) (key : Span) → Stands bytes nodes a next key t → Fits t → h (t ∷ ts) ≡ h ts) → Rest h bytes nodes shape ps (done + 1) n.after
-next_rest h bytes nodes at next shape ps (last d t g) done n s c is e skip =
-    let x = stands_child bytes nodes at next next shape (last d t g) 0 t s refl (omega arith) in
-    inr (omega (arith, c), e ∙ skip t [] x.at x.key x.stands x.fits)
-next_rest h bytes nodes at next shape ps (more d t g qs) done n s c is e skip =
-    let x = stands_child bytes nodes at next next shape (more d t g qs) 0 t s refl (omega arith) in
-    let after : n.after ≡ next + size t = (says bytes nodes x.at next x.key t n x.stands is).after in
-    let place : ℕ = at + (length (head_text d) + (length (text t) + (length g + 1))) in
-    inl (place, qs, subst (λ (i : ℕ). StandsParts bytes nodes place i shape qs) (sym after) (next_parts bytes nodes at next shape d t g qs s), omega (arith, c), e ∙ skip t (elements qs) x.at x.key x.stands x.fits)
+-- an array without elements
+pub no_first : (t : Tree) (at : ℕ) (trees : List Tree) → array_elements t ≡ Some trees → None ≡ part_of 0 at t → trees ≡ []
+no_first (leaf kind s) at trees e n = absurd (none_trees trees e)
+no_first (empty shapes.Object gap) at trees e n = absurd (none_trees trees e)
+no_first (empty shapes.Array gap) at trees e n = sym (some_trees [] trees e)
+no_first (group shapes.Object ps) at trees e n = absurd (none_trees trees e)
+no_first (group shapes.Array ps) at trees e n = absurd (none_part (part_at (at + 1) ps) n)
 
-pub rest_more : (h : List Tree → Bool) (bytes : List ℕ) (nodes : List Node) (shape : Shape) (ps : Parts) (done next : ℕ) (n : Node) → Rest h bytes nodes shape ps done next → done < count ps → n ≡ get_or nodes next n
-    → ((t : Tree) (ts : List Tree) (a : ℕ) (key : Span) → Stands bytes nodes a next key t → Fits t → h (t ∷ ts) ≡ h ts) → Rest h bytes nodes shape ps (done + 1) n.after
-rest_more h bytes nodes shape ps done next n (inl (at, qs, s, c, e)) less is skip = next_rest h bytes nodes at next shape ps qs done n s c is e skip
-rest_more h bytes nodes shape ps done next n (inr r) less is skip = absurd (omega (arith, r.0, less))
+-- the elements of an array that has some
+pub record Firsts (bytes : List ℕ) (at : ℕ) (trees : List Tree) (first : PartAt) : Type 0 where
+  pub parts : Parts
+  pub there : ArePartsAt bytes (at + 1) shapes.Array parts
+  pub first_is : first ≡ part_at (at + 1) parts
+  pub trees_is : trees ≡ elements parts
+
+pub firsts : (bytes : List ℕ) (t : Tree) (at : ℕ) (trees : List Tree) (first : PartAt) → IsAt bytes at t → array_elements t ≡ Some trees → Some first ≡ part_of 0 at t → Firsts bytes at trees first
+firsts bytes (leaf kind s) at trees first st e n = absurd (none_trees trees e)
+firsts bytes (empty shape gap) at trees first st e n = absurd (some_none first n)
+firsts bytes (group shapes.Object ps) at trees first st e n = absurd (none_trees trees e)
+firsts bytes (group shapes.Array ps) at trees first st e n = record { parts = ps; there = inside bytes at shapes.Array ps st; first_is = some_part first (part_at (at + 1) ps) n; trees_is = sym (some_trees (elements ps) trees e) }
+
+-- ---- those that are left
+
+-- what is asked of all elements is what is asked of those behind the one that ends here
+pub record Rest (h : List Tree → Bool) (bytes : List ℕ) (trees : List Tree) (end : ℕ) : Type 0 where
+  pub from : ℕ
+  pub left : Parts
+  pub there : ArePartsAt bytes from shapes.Array left
+  pub end_is : end ≡ end_at from left
+  pub asked : h trees ≡ h (behind left)
+
+-- an element that is there
+pub record Element (h : List Tree → Bool) (bytes : List ℕ) (trees : List Tree) (p : PartAt) : Type 0 where
+  pub from : ℕ
+  pub left : Parts
+  pub there : ArePartsAt bytes from shapes.Array left
+  pub stands : IsAt bytes p.value (first_tree left)
+  pub part_is : p ≡ part_at from left
+  pub asked : h trees ≡ h (first_tree left ∷ behind left)
+
+element_of : (h : List Tree → Bool) (bytes : List ℕ) (trees : List Tree) (p : PartAt) (from : ℕ) (ps : Parts) → ArePartsAt bytes from shapes.Array ps → p ≡ part_at from ps → h trees ≡ h (elements ps) → Element h bytes trees p
+element_of h bytes trees p from ps s e asked = record {
+  from = from;
+  left = ps;
+  there = s;
+  stands = subst (λ (q : PartAt). IsAt bytes q.value (first_tree ps)) (sym e) (first_value bytes from shapes.Array ps s);
+  part_is = e;
+  asked = asked ∙ ap h (elements_first ps);
+}
+
+-- the first one
+pub element_first : (h : List Tree → Bool) (bytes : List ℕ) (t : Tree) (at : ℕ) (trees : List Tree) (first : PartAt) → IsAt bytes at t → array_elements t ≡ Some trees → Some first ≡ part_of 0 at t → Element h bytes trees first
+element_first h bytes t at trees first st e n =
+    let f = firsts bytes t at trees first st e n in
+    element_of h bytes trees first (at + 1) f.parts f.there f.first_is (ap h f.trees_is)
+
+-- the next one
+next_of : (h : List Tree → Bool) (bytes : List ℕ) (trees : List Tree) (from : ℕ) (left : Parts) (p : PartAt) → ArePartsAt bytes from shapes.Array left → Some p ≡ told (parts_behind from left) → h trees ≡ h (behind left) → Element h bytes trees p
+next_of h bytes trees from (last d t g) p s n e = absurd (some_none p n)
+next_of h bytes trees from (more d t g ps) p s n e =
+    let place : ℕ = end_at from (more d t g ps) + length g + 1 in
+    element_of h bytes trees p place ps (behind_comma bytes from shapes.Array d t g ps s) (some_part p (part_at place ps) n) e
+
+pub element_next : (h : List Tree → Bool) (bytes : List ℕ) (trees : List Tree) (end : ℕ) (p : PartAt) → Rest h bytes trees end → ((at : ℕ) (ps : Parts) → ArePartsAt bytes at shapes.Array ps → end ≡ end_at at ps → Some p ≡ told (parts_behind at ps)) → Element h bytes trees p
+element_next h bytes trees end p r n = next_of h bytes trees r.from r.left p r.there (n r.from r.left r.there r.end_is) r.asked
+
+-- behind an element that leaves the question open
+pub rest_behind : (h : List Tree → Bool) (bytes : List ℕ) (trees : List Tree) (end : ℕ) (p : PartAt) (e : Element h bytes trees p) → end ≡ tree_end p.value (first_tree e.left) → h (first_tree e.left ∷ behind e.left) ≡ h (behind e.left) → Rest h bytes trees end
+rest_behind h bytes trees end p e ends skip = record {
+  from = e.from;
+  left = e.left;
+  there = e.there;
+  end_is = ends ∙ ap (λ (q : PartAt). tree_end q.value (first_tree e.left)) e.part_is;
+  asked = e.asked ∙ skip;
+}
+
+none_of : (h : List Tree → Bool) (from : ℕ) (left : Parts) → None ≡ told (parts_behind from left) → h (behind left) ≡ h []
+none_of h from (last d t g) n = refl
+none_of h from (more d t g ps) n = absurd (none_part (part_at (end_at from (more d t g ps) + length g + 1) ps) n)
+
+pub rest_none : (h : List Tree → Bool) (bytes : List ℕ) (trees : List Tree) (end : ℕ) → Rest h bytes trees end → ((at : ℕ) (ps : Parts) → ArePartsAt bytes at shapes.Array ps → end ≡ end_at at ps → None ≡ told (parts_behind at ps)) → h trees ≡ h []
+rest_none h bytes trees end r n = r.asked ∙ none_of h r.from r.left (n r.from r.left r.there r.end_is)
 
 -- ---- leaves
 
 no_both : true ≡ false → ⊥
 no_both e = cc
 
--- whether a value holds others, by its node
-pub leaf_is : (t : Tree) (at index : ℕ) (n : Node) → Says n at index t → Fits t → holds_others n.kind ≡ false → is_leaf t ≡ true
-leaf_is (leaf kind s) at index n h fits e = refl
-leaf_is (empty shape gap) at index n h fits e = absurd (no_both (sym (shape_holds shape) ∙ ap holds_others (sym h.kind) ∙ e))
-leaf_is (group shape ps) at index n h fits e = absurd (no_both (sym (shape_holds shape) ∙ ap holds_others (sym h.kind) ∙ e))
+-- whether a value holds others, by its kind
+pub leaf_is : (t : Tree) (kind : Kind) → kind ≡ tree_kind t → holds_others kind ≡ false → is_leaf t ≡ true
+leaf_is (leaf other s) kind h e = refl
+leaf_is (empty shape gap) kind h e = absurd (no_both (sym (shape_holds shape) ∙ ap holds_others (sym h) ∙ e))
+leaf_is (group shape ps) kind h e = absurd (no_both (sym (shape_holds shape) ∙ ap holds_others (sym h) ∙ e))
 
-pub leaf_not : (t : Tree) (at index : ℕ) (n : Node) → Says n at index t → Fits t → holds_others n.kind ≡ true → is_leaf t ≡ false
-leaf_not (leaf kind s) at index n h fits e = absurd (no_both (sym e ∙ ap holds_others h.kind ∙ leaf_holds kind s fits))
-leaf_not (empty shape gap) at index n h fits e = refl
-leaf_not (group shape ps) at index n h fits e = refl
+pub leaf_not : (t : Tree) (kind : Kind) → Fits t → kind ≡ tree_kind t → holds_others kind ≡ true → is_leaf t ≡ false
+leaf_not (leaf other s) kind fits h e = absurd (no_both (sym e ∙ ap holds_others h ∙ leaf_holds other s fits))
+leaf_not (empty shape gap) kind fits h e = refl
+leaf_not (group shape ps) kind fits h e = refl
 
 abbrev pub leaves : List Tree → Bool
 leaves ts = list_all is_leaf ts

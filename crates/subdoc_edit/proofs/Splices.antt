@@ -3,7 +3,7 @@ use Rattle.std.proofs.Common.{◌≡◌, ℕ, zero, suc, ◌+◌, ◌<◌, ◌�
 use Rattle.std.proofs.lemmas.List.{take_at, drop_at}
 use Rattle.json_model.specs.Spelled.{Head, plain, keyed, Tree, Parts, last, more, text, head_text, parts_text, count}
 use Rattle.json_model.specs.Moves.{gap_before, led_head, led, ended, joined, pushed, inserted, without}
-use Rattle.subdoc_edit.specs.Splicing.{Spliced, IsTrimmed}
+use Rattle.subdoc_edit.specs.Splicing.{Spliced, IsTrimmed, step, start_in, end_in}
 
 -- ---- splices in general
 
@@ -46,26 +46,6 @@ cut_is old new these from to s =
       within = omega (arith, s.to_is, ap (λ (l : List ℕ). length l) s.was, length-append s.front (s.middle ++ s.back), length-append s.middle s.back);
       is = s.is ∙ ap (λ (l : List ℕ). l ++ (these ++ s.back)) (sym front) ∙ ap (λ (l : List ℕ). take from old ++ (these ++ l)) (sym back);
     }
-
--- ---- where parts stand among the bytes of all
-
--- how many bytes stand before a part and its blanks
-abbrev pub step : Head → Tree → List ℕ → ℕ
-step h t g = length (head_text h) + (length (text t) + (length g + 1))
-
--- the place of a part's first byte behind its blanks
-abbrev pub start_in : ℕ → Parts → ℕ
-start_in zero (last h t g) = length (gap_before h)
-start_in (suc k) (last h t g) = 0
-start_in zero (more h t g ps) = length (gap_before h)
-start_in (suc k) (more h t g ps) = step h t g + start_in k ps
-
--- the place behind the last byte of a part's value
-abbrev pub end_in : ℕ → Parts → ℕ
-end_in zero (last h t g) = length (head_text h) + length (text t)
-end_in (suc k) (last h t g) = 0
-end_in zero (more h t g ps) = length (head_text h) + length (text t)
-end_in (suc k) (more h t g ps) = step h t g + end_in k ps
 
 -- ---- blanks
 

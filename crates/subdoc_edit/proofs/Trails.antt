@@ -5,13 +5,16 @@ use Rattle.json_model.specs.declared.kinds.Shape.{Shape}
 use Rattle.json_model.specs.declared.kinds.Shape.TheVariants as shapes
 use Rattle.json_model.specs.declared.asked.Part.{Part}
 use Rattle.json_model.specs.declared.asked.Part.TheVariants.{Member, At, Last}
-use Rattle.json_model.specs.Spelled.{Tree, leaf, empty, group, Parts, last, more, count}
-use Rattle.json_model.specs.Follow.{asks, child, earlier, Outcome, reached, missing, mismatch, over, Follows, place}
+use Rattle.json_model.specs.Spelled.{Tree, leaf, empty, group, Parts, last, more, count, Document}
+use Rattle.json_model.specs.Follow.{asks, child, Outcome, reached, missing, mismatch, over, Follows}
 use Rattle.json_model.specs.Edit.{above, final}
 use Rattle.json_model.specs.Order.{ends_in_index}
 use Rattle.json_model.proofs.Following.{follows_one}
-use Rattle.subdoc_path.specs.declared.finding.Found.TheVariants as found
-use Rattle.subdoc_path.specs.Leading.{Tells, Leads}
+use Rattle.subdoc_path.specs.declared.led.Led.{Led}
+use Rattle.subdoc_path.specs.declared.led.Led.TheVariants as led
+use Rattle.subdoc_path.specs.Led.{StandsAt, TellsPlace, LeadsAt}
+use Rattle.subdoc_edit.specs.Splicing.{value_in}
+use Rattle.subdoc_edit.proofs.Spots.{text_place}
 
 -- ---- outcomes apart
 
@@ -92,7 +95,7 @@ pub record Inner (ps : List Part) (root : Tree) (ks : List ℕ) (t : Tree) : Typ
   pub trail_is : ks ≡ head ∷ tail
   pub front : Follows (fronts ps) root (reached (above ks) (group shape parts))
   pub child : child parts (final ks) ≡ Some t
-  pub place_is : place ks root ≡ place (above ks) root + 1 + earlier parts (final ks)
+  pub place_is : text_place ks root ≡ text_place (above ks) root + 1 + value_in (final ks) parts
   pub indexed : ends_in_index ps ≡ true → shape ≡ shapes.Array
 
 array_asked : (p : Part) (shape : Shape) → asks p ≡ shape → ends_in_index (p ∷ []) ≡ true → shape ≡ shapes.Array
@@ -100,13 +103,13 @@ array_asked (Member name) shape e i = cc
 array_asked (At n) shape e i = sym e
 array_asked Last shape e i = cc
 
-place_one : (shape : Shape) (qs : Parts) (k : ℕ) (t : Tree) → child qs k ≡ Some t → place (k ∷ []) (group shape qs) ≡ 0 + 1 + earlier qs k
+place_one : (shape : Shape) (qs : Parts) (k : ℕ) (t : Tree) → child qs k ≡ Some t → text_place (k ∷ []) (group shape qs) ≡ 0 + 1 + value_in k qs
 place_one shape qs k t c =
-    let below : unwrap_or (option_map (place []) (child qs k)) 0 ≡ 0 = ap (λ (x : Option Tree). unwrap_or (option_map (place []) x) 0) c in
+    let below : unwrap_or (option_map (text_place []) (child qs k)) 0 ≡ 0 = ap (λ (x : Option Tree). unwrap_or (option_map (text_place []) x) 0) c in
     omega (arith, below)
 
-place_more : (shape : Shape) (qs : Parts) (k : ℕ) (ks : List ℕ) (u : Tree) → child qs k ≡ Some u → place (k ∷ ks) (group shape qs) ≡ suc (earlier qs k + place ks u)
-place_more shape qs k ks u c = ap (λ (x : Option Tree). suc (earlier qs k + unwrap_or (option_map (place ks) x) 0)) c
+place_more : (shape : Shape) (qs : Parts) (k : ℕ) (ks : List ℕ) (u : Tree) → child qs k ≡ Some u → text_place (k ∷ ks) (group shape qs) ≡ suc (value_in k qs + text_place ks u)
+place_more shape qs k ks u c = ap (λ (x : Option Tree). suc (value_in k qs + unwrap_or (option_map (text_place ks) x) 0)) c
 
 pub inner : (p : Part) (ps : List Part) (root : Tree) (ks : List ℕ) (t : Tree) → Follows (p ∷ ps) root (reached ks t) → Inner (p ∷ ps) root ks t
 inner p ps (leaf kind s) ks t f = absurd (reached_mismatch ks t 0 f)
@@ -136,7 +139,7 @@ inner p (q ∷ ps) (group shape qs) ks t (inr (inr (same, k, u, next, names, c, 
     let trail : ks ≡ k ∷ (i.head ∷ i.tail) = o.trail_is ∙ ap (λ (l : List ℕ). k ∷ l) i.trail_is in
     let up : List ℕ = above (i.head ∷ i.tail) in
     let front : Follows (fronts (q ∷ ps)) u (reached up (group i.shape i.parts)) = subst (λ (l : List ℕ). Follows (fronts (q ∷ ps)) u (reached (above l) (group i.shape i.parts))) i.trail_is i.front in
-    let place_is : place (i.head ∷ i.tail) u ≡ place up u + 1 + earlier i.parts (final (i.head ∷ i.tail)) = subst (λ (l : List ℕ). place l u ≡ place (above l) u + 1 + earlier i.parts (final l)) i.trail_is i.place_is in
+    let place_is : text_place (i.head ∷ i.tail) u ≡ text_place up u + 1 + value_in (final (i.head ∷ i.tail)) i.parts = subst (λ (l : List ℕ). text_place l u ≡ text_place (above l) u + 1 + value_in (final l) i.parts) i.trail_is i.place_is in
     let child : child i.parts (final (i.head ∷ i.tail)) ≡ Some t = subst (λ (l : List ℕ). child i.parts (final l) ≡ Some t) i.trail_is i.child in
     subst (λ (l : List ℕ). Inner (p ∷ q ∷ ps) (group shape qs) l t) (sym trail) (record {
       shape = i.shape;
@@ -210,33 +213,40 @@ lacks (p ∷ ps) (group shape qs) ks t absent (inr (inr (same, k, u, next, names
 
 -- ---- what is told of following
 
-at_same : (n m : ℕ) → found.At n ≡ found.At m → n ≡ m
+at_same : (n m : ℕ) → led.At n ≡ led.At m → n ≡ m
 at_same n m e = cc
 
-missing_same : (n m : ℕ) → found.Missing n ≡ found.Missing m → n ≡ m
+missing_same : (n m : ℕ) → led.Missing n ≡ led.Missing m → n ≡ m
 missing_same n m e = cc
 
--- where parts lead to a value, its place is told
-pub told_at : (ps : List Part) (root t : Tree) (ks : List ℕ) (n : ℕ) → Follows ps root (reached ks t) → Leads ps root (found.At n) → n ≡ place ks root
-told_at ps root t ks n f (o, g, tells) = at_same n (place ks root) (subst (λ (q : Outcome). Tells root q (found.At n)) (follows_one ps root o (reached ks t) g f) tells)
+stands_told : (bytes : List ℕ) (d : Document) (t : Tree) (ks : List ℕ) (n : ℕ) → TellsPlace bytes d (reached ks t) (led.At n) → StandsAt bytes d ks t n
+stands_told bytes d t ks n (at, e, s) = subst (λ (k : ℕ). StandsAt bytes d ks t k) (sym (at_same n at e)) s
 
-pub told_missing : (ps : List Part) (root t : Tree) (ks : List ℕ) (absent : List Part) (n : ℕ) → Follows ps root (missing ks t absent) → Leads ps root (found.Missing n) → n ≡ length ks
-told_missing ps root t ks absent n f (o, g, tells) = missing_same n (length ks) (subst (λ (q : Outcome). Tells root q (found.Missing n)) (follows_one ps root o (missing ks t absent) g f) tells)
+-- what is told, under another name
+pub led_as : (bytes : List ℕ) (ps : List Part) (d : Document) (l m : Led) → l ≡ m → LeadsAt ps bytes d l → LeadsAt ps bytes d m
+led_as bytes ps d l m e h = subst (λ (x : Led). LeadsAt ps bytes d x) e h
+
+-- where parts lead to a value, its place is told
+pub told_at : (bytes : List ℕ) (ps : List Part) (d : Document) (t : Tree) (ks : List ℕ) (n : ℕ) → Follows ps d.tree (reached ks t) → LeadsAt ps bytes d (led.At n) → StandsAt bytes d ks t n
+told_at bytes ps d t ks n f (o, g, tells) = stands_told bytes d t ks n (subst (λ (q : Outcome). TellsPlace bytes d q (led.At n)) (follows_one ps d.tree o (reached ks t) g f) tells)
+
+pub told_missing : (bytes : List ℕ) (ps : List Part) (d : Document) (t : Tree) (ks : List ℕ) (absent : List Part) (n : ℕ) → Follows ps d.tree (missing ks t absent) → LeadsAt ps bytes d (led.Missing n) → n ≡ length ks
+told_missing bytes ps d t ks absent n f (o, g, tells) = missing_same n (length ks) (subst (λ (q : Outcome). TellsPlace bytes d q (led.Missing n)) (follows_one ps d.tree o (missing ks t absent) g f) tells)
 
 -- a value was reached
-pub record Reached (ps : List Part) (root : Tree) (n : ℕ) : Type 0 where
+pub record Reached (bytes : List ℕ) (ps : List Part) (d : Document) (at : ℕ) : Type 0 where
   pub trail : List ℕ
   pub tree : Tree
-  pub follows : Follows ps root (reached trail tree)
-  pub place_is : n ≡ place trail root
+  pub follows : Follows ps d.tree (reached trail tree)
+  pub stands : StandsAt bytes d trail tree at
 
-by_reached : (ps : List Part) (root : Tree) (n : ℕ) (o : Outcome) → Follows ps root o → Tells root o (found.At n) → Reached ps root n
-by_reached ps root n (reached ks t) f e = record { trail = ks; tree = t; follows = f; place_is = at_same n (place ks root) e }
-by_reached ps root n (missing ks t absent) f e = cc
-by_reached ps root n (mismatch d) f e = cc
+by_reached : (bytes : List ℕ) (ps : List Part) (d : Document) (at : ℕ) (o : Outcome) → Follows ps d.tree o → TellsPlace bytes d o (led.At at) → Reached bytes ps d at
+by_reached bytes ps d at (reached ks t) f e = record { trail = ks; tree = t; follows = f; stands = stands_told bytes d t ks at e }
+by_reached bytes ps d at (missing ks t absent) f e = cc
+by_reached bytes ps d at (mismatch n) f e = cc
 
-pub leads_at : (ps : List Part) (root : Tree) (n : ℕ) → Leads ps root (found.At n) → Reached ps root n
-leads_at ps root n (o, f, e) = by_reached ps root n o f e
+pub leads_at : (bytes : List ℕ) (ps : List Part) (d : Document) (at : ℕ) → LeadsAt ps bytes d (led.At at) → Reached bytes ps d at
+leads_at bytes ps d at (o, f, e) = by_reached bytes ps d at o f e
 
 -- a value lacks what is named
 pub record Missed (ps : List Part) (root : Tree) (n : ℕ) : Type 0 where
@@ -246,10 +256,13 @@ pub record Missed (ps : List Part) (root : Tree) (n : ℕ) : Type 0 where
   pub follows : Follows ps root (missing trail tree absent)
   pub long : n ≡ length trail
 
-by_missed : (ps : List Part) (root : Tree) (n : ℕ) (o : Outcome) → Follows ps root o → Tells root o (found.Missing n) → Missed ps root n
-by_missed ps root n (reached ks t) f e = cc
-by_missed ps root n (missing ks t absent) f e = record { trail = ks; tree = t; absent = absent; follows = f; long = missing_same n (length ks) e }
-by_missed ps root n (mismatch d) f e = cc
+missing_at : (bytes : List ℕ) (d : Document) (ks : List ℕ) (t : Tree) (n : ℕ) → TellsPlace bytes d (reached ks t) (led.Missing n) → ⊥
+missing_at bytes d ks t n (at, e, s) = cc
 
-pub leads_missing : (ps : List Part) (root : Tree) (n : ℕ) → Leads ps root (found.Missing n) → Missed ps root n
-leads_missing ps root n (o, f, e) = by_missed ps root n o f e
+by_missed : (bytes : List ℕ) (ps : List Part) (d : Document) (n : ℕ) (o : Outcome) → Follows ps d.tree o → TellsPlace bytes d o (led.Missing n) → Missed ps d.tree n
+by_missed bytes ps d n (reached ks t) f e = absurd (missing_at bytes d ks t n e)
+by_missed bytes ps d n (missing ks t absent) f e = record { trail = ks; tree = t; absent = absent; follows = f; long = missing_same n (length ks) e }
+by_missed bytes ps d n (mismatch m) f e = cc
+
+pub leads_missing : (bytes : List ℕ) (ps : List Part) (d : Document) (n : ℕ) → LeadsAt ps bytes d (led.Missing n) → Missed ps d.tree n
+leads_missing bytes ps d n (o, f, e) = by_missed bytes ps d n o f e

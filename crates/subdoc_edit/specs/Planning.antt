@@ -9,22 +9,19 @@ use Rattle.json_model.specs.declared.asked.Edit.{Edit}
 use Rattle.json_model.specs.declared.asked.Part.{Part}
 use Rattle.json_model.specs.declared.asked.Part.TheVariants.{At}
 use Rattle.json_model.specs.Spelled.{Tree, group, Parts, text, parts_text, depth, parts_depth, count, Document, document_text, IsText}
-use Rattle.json_model.specs.Follow.{missing, Follows, earlier, place}
+use Rattle.json_model.specs.Follow.{missing, Follows}
 use Rattle.json_model.specs.Moves.{Change, put, push, insert, remove, at_trail, changed}
-use Rattle.json_model.specs.Splices.{Reaches}
 use Rattle.json_model.specs.Edit.{Asked, Act, array_elements, counted, number_of, to_set, make, act, member, nested}
 use Rattle.json_model.specs.Order.{Acts}
 use Rattle.json_model.specs.Values.{Gives}
-use Rattle.json_spell.specs.declared.node.Node.{Node}
-use Rattle.json_spell.specs.Nodes.{document_nodes}
-use Rattle.subdoc_path.specs.declared.finding.Found.TheVariants as found
-use Rattle.subdoc_path.specs.Leading.{Leads}
+use Rattle.subdoc_path.specs.declared.led.Led.TheVariants as led
+use Rattle.subdoc_path.specs.Led.{StandsAt, LeadsAt}
 use Rattle.subdoc_edit.specs.declared.values.Given.{Given}
 use Rattle.subdoc_edit.specs.declared.parents.Around.{Around}
 use Rattle.subdoc_edit.specs.declared.plan.Plan.{Plan}
 use Rattle.subdoc_edit.specs.declared.plan.Content.{Content}
 use Rattle.subdoc_edit.specs.Given.{given_bytes, IsCutOut, Describes}
-use Rattle.subdoc_edit.specs.Splicing.{Spliced, IsTrimmed, Holds, IsArray}
+use Rattle.subdoc_edit.specs.Splicing.{Spliced, IsTrimmed, Holds, IsArray, value_in}
 use Rattle.subdoc_edit.specs.Telling.{Told}
 
 -- ---- plans
@@ -51,24 +48,15 @@ pub record Plans (bytes value : List ℕ) (d : Document) (trail : List ℕ) (cha
 
 -- ---- where
 
--- a value stands at the end of a trail, and at this place in the list
-pub record Stood (bytes : List ℕ) (nodes : List Node) (d : Document) (trail : List ℕ) (t : Tree) (index : ℕ) : Type 0 where
+-- parts of a path lead to the value at this place
+pub record LeadsTo (bytes : List ℕ) (parts : List Part) (d : Document) (at : ℕ) : Type 0 where
   pub is : IsText MOST_DEEP d bytes
-  pub listed : nodes ≡ document_nodes d
-  pub reaches : Reaches trail d.tree t
-  pub index_is : index ≡ place trail d.tree
-
--- parts of a path lead to the value at this place in the list
-pub record LeadsTo (bytes : List ℕ) (nodes : List Node) (parts : List Part) (d : Document) (index : ℕ) : Type 0 where
-  pub is : IsText MOST_DEEP d bytes
-  pub listed : nodes ≡ document_nodes d
-  pub leads : Leads parts d.tree (found.At index)
+  pub leads : LeadsAt parts bytes d (led.At at)
 
 -- the part of this number, and no part before it, names nothing that is there
-pub record Misses (bytes : List ℕ) (nodes : List Node) (parts : List Part) (d : Document) (followed : ℕ) : Type 0 where
+pub record Misses (bytes : List ℕ) (parts : List Part) (d : Document) (followed : ℕ) : Type 0 where
   pub is : IsText MOST_DEEP d bytes
-  pub listed : nodes ≡ document_nodes d
-  pub leads : Leads parts d.tree (found.Missing followed)
+  pub leads : LeadsAt parts bytes d (led.Missing followed)
 
 -- ---- what
 
@@ -104,35 +92,35 @@ IsContent value c v = IsWritten value c v ⊎ ((MOST_DEEP < depth v) × (MOST_DE
 -- ---- plans of single changes, where so many parts of a path lead
 
 -- a value in place of the one there
-abbrev pub PlansPut : List ℕ → List ℕ → List Node → ℕ → ℕ → Content → Plan → Type 0
-PlansPut bytes value nodes index followed c p =
-    (d : Document) (trail : List ℕ) (t v : Tree) → Stood bytes nodes d trail t index → followed ≡ length trail → IsContent value c v → Plans bytes value d trail (put v) p
+abbrev pub PlansPut : List ℕ → List ℕ → ℕ → ℕ → Content → Plan → Type 0
+PlansPut bytes value at followed c p =
+    (d : Document) (trail : List ℕ) (t v : Tree) → StandsAt bytes d trail t at → followed ≡ length trail → IsContent value c v → Plans bytes value d trail (put v) p
 
 -- parts at the end
-abbrev pub PlansPush : List ℕ → List ℕ → List Node → ℕ → ℕ → Given → Plan → Type 0
-PlansPush bytes value nodes index followed g p =
-    (d : Document) (trail : List ℕ) (t : Tree) (new : Parts) → Stood bytes nodes d trail t index → followed ≡ length trail → Holds t → IsNew value g new → Plans bytes value d trail (push new) p
+abbrev pub PlansPush : List ℕ → List ℕ → ℕ → ℕ → Given → Plan → Type 0
+PlansPush bytes value at followed g p =
+    (d : Document) (trail : List ℕ) (t : Tree) (new : Parts) → StandsAt bytes d trail t at → followed ≡ length trail → Holds t → IsNew value g new → Plans bytes value d trail (push new) p
 
 -- elements at the front
-abbrev pub PlansFront : List ℕ → List ℕ → List Node → ℕ → ℕ → Given → Plan → Type 0
-PlansFront bytes value nodes index followed g p =
-    (d : Document) (trail : List ℕ) (t : Tree) (new : Parts) → Stood bytes nodes d trail t index → followed ≡ length trail → IsArray t → IsNew value g new → Plans bytes value d trail (insert 0 new) p
+abbrev pub PlansFront : List ℕ → List ℕ → ℕ → ℕ → Given → Plan → Type 0
+PlansFront bytes value at followed g p =
+    (d : Document) (trail : List ℕ) (t : Tree) (new : Parts) → StandsAt bytes d trail t at → followed ≡ length trail → IsArray t → IsNew value g new → Plans bytes value d trail (insert 0 new) p
 
 -- elements before the one at this place, to which as many parts lead
-abbrev pub PlansInsert : List ℕ → List ℕ → List Node → ℕ → ℕ → Given → Plan → Type 0
-PlansInsert bytes value nodes index followed g p =
-    (d : Document) (trail : List ℕ) (ps : Parts) (k whole : ℕ) (new : Parts) → Stood bytes nodes d trail (group shapes.Array ps) whole → k < count ps → index ≡ whole + 1 + earlier ps k → followed ≡ length trail + 1
+abbrev pub PlansInsert : List ℕ → List ℕ → ℕ → ℕ → Given → Plan → Type 0
+PlansInsert bytes value at followed g p =
+    (d : Document) (trail : List ℕ) (ps : Parts) (k whole : ℕ) (new : Parts) → StandsAt bytes d trail (group shapes.Array ps) whole → k < count ps → at ≡ whole + 1 + value_in k ps → followed ≡ length trail + 1
     → IsNew value g new → Plans bytes value d trail (insert k new) p
 
 -- the part whose value is at this place gone from the value at another
-abbrev pub PlansRemove : List ℕ → List ℕ → List Node → ℕ → ℕ → Plan → Type 0
-PlansRemove bytes value nodes whole index p =
-    (d : Document) (trail : List ℕ) (shape : Shape) (ps : Parts) (k : ℕ) → Stood bytes nodes d trail (group shape ps) whole → k < count ps → index ≡ whole + 1 + earlier ps k → Plans bytes value d trail (remove k) p
+abbrev pub PlansRemove : List ℕ → List ℕ → ℕ → ℕ → Plan → Type 0
+PlansRemove bytes value whole at p =
+    (d : Document) (trail : List ℕ) (shape : Shape) (ps : Parts) (k : ℕ) → StandsAt bytes d trail (group shape ps) whole → k < count ps → at ≡ whole + 1 + value_in k ps → Plans bytes value d trail (remove k) p
 
 -- a new member at the end, where a path of so many parts leads to its value
-abbrev pub PlansMember : List ℕ → List ℕ → List Node → ℕ → ℕ → Around → Content → Plan → Type 0
-PlansMember bytes value nodes index total a c p =
-    (d : Document) (trail : List ℕ) (t v : Tree) (name : List ℕ) (names : List (List ℕ)) → Stood bytes nodes d trail t index → total ≡ length trail + (1 + length names) → Holds t → IsContent value c v
+abbrev pub PlansMember : List ℕ → List ℕ → ℕ → ℕ → Around → Content → Plan → Type 0
+PlansMember bytes value at total a c p =
+    (d : Document) (trail : List ℕ) (t v : Tree) (name : List ℕ) (names : List (List ℕ)) → StandsAt bytes d trail t at → total ≡ length trail + (1 + length names) → Holds t → IsContent value c v
     → ((u : Tree) → parts_text (member name (nested names u)) ≡ a.before ++ (text u ++ a.behind)) → Plans bytes value d trail (push (member name (nested names v))) p
 
 -- ---- what is done
@@ -147,23 +135,23 @@ abbrev pub DecidesGiven : Edit → Bool → List ℕ → List ℕ → List Part 
 DecidesGiven edit several bytes value parts g d r =
     (asked : Asked) → Gives edit value (Ok asked) → Describes value g asked → Decides asked several bytes value parts d r
 
--- the same where the parts lead to the value at this place in the list
-abbrev pub FoundDecides : Edit → List ℕ → List ℕ → List Node → List Part → ℕ → Given → Result Plan Refused → Type 0
-FoundDecides edit bytes value nodes parts index g r =
-    (d : Document) (several : Bool) → LeadsTo bytes nodes parts d index → DecidesGiven edit several bytes value parts g d r
+-- the same where the parts lead to the value at this place
+abbrev pub FoundDecides : Edit → List ℕ → List ℕ → List Part → ℕ → Given → Result Plan Refused → Type 0
+FoundDecides edit bytes value parts at g r =
+    (d : Document) (several : Bool) → LeadsTo bytes parts d at → DecidesGiven edit several bytes value parts g d r
 
 -- the same where the part of this number names nothing that is there
-abbrev pub MissedDecides : Edit → Bool → List ℕ → List ℕ → List Node → List Part → ℕ → Given → Result Plan Refused → Type 0
-MissedDecides edit several bytes value nodes parts followed g r =
-    (d : Document) → Misses bytes nodes parts d followed → DecidesGiven edit several bytes value parts g d r
+abbrev pub MissedDecides : Edit → Bool → List ℕ → List ℕ → List Part → ℕ → Given → Result Plan Refused → Type 0
+MissedDecides edit several bytes value parts followed g r =
+    (d : Document) → Misses bytes parts d followed → DecidesGiven edit several bytes value parts g d r
 
--- parts of a path lead to a value at this place in the list
-abbrev pub IsFound : List ℕ → List Node → List Part → ℕ → Type 0
-IsFound bytes nodes parts index = (d : Document) × LeadsTo bytes nodes parts d index
+-- parts of a path lead to a value at this place
+abbrev pub IsFound : List ℕ → List Part → ℕ → Type 0
+IsFound bytes parts at = (d : Document) × LeadsTo bytes parts d at
 
 -- the part of this number names nothing that is there
-abbrev pub IsMissed : List ℕ → List Node → List Part → ℕ → Type 0
-IsMissed bytes nodes parts followed = (d : Document) × Misses bytes nodes parts d followed
+abbrev pub IsMissed : List ℕ → List Part → ℕ → Type 0
+IsMissed bytes parts followed = (d : Document) × Misses bytes parts d followed
 
 -- ---- arrays
 
@@ -179,20 +167,20 @@ TellsSet t wanted None = IsArray t × ((done : Result Act Status) → to_set (ar
 
 -- ---- counters
 
--- a counter's number in place of the one at this place in the list, or why it can't count
-abbrev pub TellsCounter : List ℕ → List ℕ → List Node → ℕ → ℕ → ℤ → Result Plan Refused → Type 0
-TellsCounter bytes value nodes index followed delta =
+-- a counter's number in place of the one at this place, or why it can't count
+abbrev pub TellsCounter : List ℕ → List ℕ → ℕ → ℕ → ℤ → Result Plan Refused → Type 0
+TellsCounter bytes value at followed delta =
     Told
-    (λ p. (d : Document) (trail : List ℕ) (t : Tree) → Stood bytes nodes d trail t index → followed ≡ length trail
+    (λ p. (d : Document) (trail : List ℕ) (t : Tree) → StandsAt bytes d trail t at → followed ≡ length trail
     → (a : Act) × (counted trail delta (number_of t) ≡ Ok a) × Plans bytes value d a.trail a.change p × (a.number ≡ p.number))
-    (λ s. (d : Document) (trail : List ℕ) (t : Tree) → Stood bytes nodes d trail t index → counted trail delta (number_of t) ≡ Err s)
+    (λ s. (d : Document) (trail : List ℕ) (t : Tree) → StandsAt bytes d trail t at → counted trail delta (number_of t) ≡ Err s)
 
 -- ---- what is made where parts name nothing
 
 -- a new member of what the front of the path leads to, or why there can be none; `one` where the last part alone may be absent
-abbrev pub MakesMember : Bool → Bool → List ℕ → List ℕ → List Node → List Part → ℕ → Content → Result Plan Refused → Type 0
-MakesMember one several bytes value nodes parts followed c r =
-    (d : Document) (trail : List ℕ) (t v : Tree) (absent : List Part) → Misses bytes nodes parts d followed → Follows parts d.tree (missing trail t absent) → IsContent value c v
+abbrev pub MakesMember : Bool → Bool → List ℕ → List ℕ → List Part → ℕ → Content → Result Plan Refused → Type 0
+MakesMember one several bytes value parts followed c r =
+    (d : Document) (trail : List ℕ) (t v : Tree) (absent : List Part) → Misses bytes parts d followed → Follows parts d.tree (missing trail t absent) → IsContent value c v
     → Told
     (λ p. (change : Change) × (make (several || (one && length absent == 1)) trail absent v ≡ act trail change) × Plans bytes value d trail change p × (p.number ≡ c.number))
     (λ s. make (several || (one && length absent == 1)) trail absent v ≡ Err s) r

@@ -4,25 +4,25 @@ ghost use Rattle.std.specs.Prelude.{◌≡◌, ℕ, ◌<◌, ◌≤◌, ◌||◌
 ghost use Rattle.json_model.specs.declared.TheConstants.{MOST_DEEP as most_deep};
 ghost use Rattle.json_model.specs.declared.asked.Edit.TheVariants as edits;
 ghost use Rattle.json_model.specs.Order.{takes, ends_in_index};
-ghost use Rattle.json_model.specs.Spelled.{Tree, Fits, Document, IsText};
-ghost use Rattle.json_spell.specs.declared.node.Span.{Span};
-ghost use Rattle.json_spell.specs.Places.{Spans as AreSpans};
-ghost use Rattle.subdoc_path.specs.Standing.{Stands, IsStanding};
+ghost use Rattle.json_model.specs.Spelled.{Tree, Document, IsText};
+ghost use Rattle.json_walk.specs.Places.{IsAt};
+ghost use Rattle.subdoc_edit.specs.Splicing.{IsDocument, IsStanding};
 ghost use Rattle.subdoc_edit.specs.Given.{IsCutOut, IsGiven};
 ghost use Rattle.subdoc_edit.specs.Planning.{FoundDecides, MissedDecides, IsFound, IsMissed};
 ghost use Rattle.subdoc_edit.specs.Planning.{TellsArray, TellsSet, MakesMember, TellsIndex};
 ghost use Rattle.subdoc_edit.specs.Planning.{DecidesGiven};
 
+use crate::following::follow_of;
 use crate::numbers::counter_at;
 use crate::parents::around_of;
 use crate::plan::{Content, Plan, insert_at, member_at, push_at, push_front_at, put_at, remove_at};
 use crate::values::Given;
-use crate::walking::{are_leaves, cut, has_text, node_at};
+use crate::walking::{are_leaves, cut, has_text};
 use doc_model::{Refused, Status};
 use json_model::{Edit, Kind, MOST_DEEP, PARTS_LIMIT, Part};
-use json_spell::{Node, Spans, nodes};
+use json_walk::kind_at;
 use std::alloc::Global;
-use subdoc_path::{Found, find_parts};
+use subdoc_path::Led;
 
 // ---- where the path leads to a value
 
@@ -30,17 +30,16 @@ use subdoc_path::{Found, find_parts};
 fn replace(
     alloc: Global,
     text: &[u8],
-    nodes: &[Node],
     parts: &[Part],
     at: usize,
     value: &[u8],
     given: Given,
 ) -> Result<Plan, Refused>
-    requires found { IsFound text.now nodes.now parts.now at }
+    requires found { IsFound text.now parts.now at }
     requires few { length parts.now ≤ PARTS_LIMIT }
-    ensures upserts { FoundDecides edits.DictUpsert text.now value.now nodes.now parts.now at given
+    ensures upserts { FoundDecides edits.DictUpsert text.now value.now parts.now at given
         result }
-    ensures replaces { FoundDecides edits.Replace text.now value.now nodes.now parts.now at given
+    ensures replaces { FoundDecides edits.Replace text.now value.now parts.now at given
         result }
 {
     let content = Content {
@@ -50,38 +49,36 @@ fn replace(
         depth: given.depth,
         number: None,
     };
-    Ok(put_at(alloc, text, nodes, at, parts.len(), value, content))
+    Ok(put_at(alloc, text, at, parts.len(), value, content))
 }
 
 /// A member or an element gone.
 fn delete(
     alloc: Global,
     text: &[u8],
-    spans: &Spans,
     parts: &[Part],
     at: usize,
     value: &[u8],
     given: Given,
 ) -> Result<Plan, Refused>
-    requires found { IsFound text.now spans.now parts.now at }
+    requires found { IsFound text.now parts.now at }
     requires some { 0 < length parts.now }
-    ensures { FoundDecides edits.Delete text.now value.now spans.now parts.now at given result }
+    ensures { FoundDecides edits.Delete text.now value.now parts.now at given result }
 {
     let (front, _) = parts.split_at(parts.len() - 1);
-    match find_parts(text, spans, front) {
-        Found::At(whole) => Ok(remove_at(alloc, text, nodes(spans), whole, at, value)),
-        Found::Missing(_) => Err(Refused::NoMemory),
-        Found::Mismatch(_) => Err(Refused::NoMemory),
+    match follow_of(alloc, text, front)? {
+        Led::At(whole) => Ok(remove_at(alloc, text, whole, at, value)),
+        Led::Missing(_) => Err(Refused::NoMemory),
+        Led::Mismatch(_) => Err(Refused::NoMemory),
     }
 }
 
 /// Whether the value at `at` is an array.
-fn is_array(text: &[u8], nodes: &[Node], at: usize) -> bool
-    requires { IsStanding text.now nodes.now at }
-    ensures { (place : ℕ) (key : Span) (t : Tree) → Stands text.now nodes.now place at key t
-        → Fits t → TellsArray t result }
+fn is_array(text: &[u8], at: usize) -> bool
+    requires { IsStanding text.now at }
+    ensures { (t : Tree) → IsAt text.now at t → TellsArray t result }
 {
-    match node_at(text, nodes, at).kind {
+    match kind_at(text, at) {
         Kind::Array => true,
         _ => false,
     }
@@ -91,21 +88,20 @@ fn is_array(text: &[u8], nodes: &[Node], at: usize) -> bool
 fn push_last(
     alloc: Global,
     text: &[u8],
-    nodes: &[Node],
     parts: &[Part],
     at: usize,
     value: &[u8],
     given: Given,
 ) -> Result<Plan, Refused>
-    requires found { IsFound text.now nodes.now parts.now at }
+    requires found { IsFound text.now parts.now at }
     requires few { length parts.now ≤ PARTS_LIMIT }
-    ensures { FoundDecides edits.ArrayPushLast text.now value.now nodes.now parts.now at given
+    ensures { FoundDecides edits.ArrayPushLast text.now value.now parts.now at given
         result }
 {
-    if !is_array(text, nodes, at) {
+    if !is_array(text, at) {
         return Err(Refused::Status(Status::PATH_MISMATCH));
     }
-    let plan = push_at(alloc, text, nodes, at, parts.len(), value, given)?;
+    let plan = push_at(alloc, text, at, parts.len(), value, given)?;
     Ok(plan)
 }
 
@@ -113,21 +109,20 @@ fn push_last(
 fn push_first(
     alloc: Global,
     text: &[u8],
-    nodes: &[Node],
     parts: &[Part],
     at: usize,
     value: &[u8],
     given: Given,
 ) -> Result<Plan, Refused>
-    requires found { IsFound text.now nodes.now parts.now at }
+    requires found { IsFound text.now parts.now at }
     requires few { length parts.now ≤ PARTS_LIMIT }
-    ensures { FoundDecides edits.ArrayPushFirst text.now value.now nodes.now parts.now at given
+    ensures { FoundDecides edits.ArrayPushFirst text.now value.now parts.now at given
         result }
 {
-    if !is_array(text, nodes, at) {
+    if !is_array(text, at) {
         return Err(Refused::Status(Status::PATH_MISMATCH));
     }
-    let plan = push_front_at(alloc, text, nodes, at, parts.len(), value, given)?;
+    let plan = push_front_at(alloc, text, at, parts.len(), value, given)?;
     Ok(plan)
 }
 
@@ -135,40 +130,34 @@ fn push_first(
 fn insert(
     alloc: Global,
     text: &[u8],
-    nodes: &[Node],
     parts: &[Part],
     at: usize,
     value: &[u8],
     given: Given,
 ) -> Result<Plan, Refused>
-    requires found { IsFound text.now nodes.now parts.now at }
+    requires found { IsFound text.now parts.now at }
     requires few { length parts.now ≤ PARTS_LIMIT }
     requires form { ends_in_index parts.now ≡ true }
-    ensures { FoundDecides edits.ArrayInsert text.now value.now nodes.now parts.now at given
+    ensures { FoundDecides edits.ArrayInsert text.now value.now parts.now at given
         result }
 {
-    let plan = insert_at(alloc, text, nodes, at, parts.len(), value, given)?;
+    let plan = insert_at(alloc, text, at, parts.len(), value, given)?;
     Ok(plan)
 }
 
 /// Why an element of this text can't be added to the value at `at`: it is no array, or one that
 /// holds objects or arrays, or one that has it.
-fn set_fault(text: &[u8], nodes: &[Node], at: usize, wanted: &[u8]) -> Option<Status>
-    requires { IsStanding text.now nodes.now at }
-    ensures { (place : ℕ) (key : Span) (t : Tree) → Stands text.now nodes.now place at key t
-        → Fits t → TellsSet t wanted.now result }
+fn set_fault(text: &[u8], at: usize, wanted: &[u8]) -> Option<Status>
+    requires { IsStanding text.now at }
+    ensures { (t : Tree) → IsAt text.now at t → TellsSet t wanted.now result }
 {
-    let node = node_at(text, nodes, at);
-    if node.kind != Kind::Array {
+    if kind_at(text, at) != Kind::Array {
         return Some(Status::PATH_MISMATCH);
     }
-    if node.children == 0 {
-        return None;
-    }
-    if !are_leaves(text, nodes, at + 1, node.children) {
+    if !are_leaves(text, at) {
         return Some(Status::PATH_MISMATCH);
     }
-    if has_text(text, nodes, at + 1, node.children, wanted) {
+    if has_text(text, at, wanted) {
         return Some(Status::PATH_EEXISTS);
     }
     None
@@ -178,23 +167,22 @@ fn set_fault(text: &[u8], nodes: &[Node], at: usize, wanted: &[u8]) -> Option<St
 fn add_unique(
     alloc: Global,
     text: &[u8],
-    nodes: &[Node],
     parts: &[Part],
     at: usize,
     value: &[u8],
     given: Given,
 ) -> Result<Plan, Refused>
-    requires found { IsFound text.now nodes.now parts.now at }
+    requires found { IsFound text.now parts.now at }
     requires few { length parts.now ≤ PARTS_LIMIT }
     requires within { IsCutOut value.now given }
-    ensures { FoundDecides edits.ArrayAddUnique text.now value.now nodes.now parts.now at given
+    ensures { FoundDecides edits.ArrayAddUnique text.now value.now parts.now at given
         result }
 {
-    match set_fault(text, nodes, at, cut(value, given.from, given.to)) {
+    match set_fault(text, at, cut(value, given.from, given.to)) {
         Some(status) => return Err(Refused::Status(status)),
         None => {}
     }
-    let plan = push_at(alloc, text, nodes, at, parts.len(), value, given)?;
+    let plan = push_at(alloc, text, at, parts.len(), value, given)?;
     Ok(plan)
 }
 
@@ -202,17 +190,16 @@ fn add_unique(
 fn count(
     alloc: Global,
     text: &[u8],
-    nodes: &[Node],
     parts: &[Part],
     at: usize,
     value: &[u8],
     given: Given,
 ) -> Result<Plan, Refused>
-    requires found { IsFound text.now nodes.now parts.now at }
+    requires found { IsFound text.now parts.now at }
     requires few { length parts.now ≤ PARTS_LIMIT }
-    ensures { FoundDecides edits.Counter text.now value.now nodes.now parts.now at given result }
+    ensures { FoundDecides edits.Counter text.now value.now parts.now at given result }
 {
-    counter_at(alloc, text, nodes, at, parts.len(), value, given)
+    counter_at(alloc, text, at, parts.len(), value, given)
 }
 
 /// What is done where the path leads to the value at `at`.
@@ -220,29 +207,27 @@ fn at_value(
     alloc: Global,
     edit: Edit,
     text: &[u8],
-    spans: &Spans,
     parts: &[Part],
     at: usize,
     value: &[u8],
     given: Given,
 ) -> Result<Plan, Refused>
-    requires found { IsFound text.now spans.now parts.now at }
+    requires found { IsFound text.now parts.now at }
     requires few { length parts.now ≤ PARTS_LIMIT }
     requires form { takes edit parts.now ≡ true }
     requires read { IsGiven edit value.now given }
-    ensures { FoundDecides edit text.now value.now spans.now parts.now at given result }
+    ensures { FoundDecides edit text.now value.now parts.now at given result }
 {
-    let nodes = nodes(spans);
     match edit {
         Edit::DictAdd => Err(Refused::Status(Status::PATH_EEXISTS)),
-        Edit::DictUpsert => replace(alloc, text, nodes, parts, at, value, given),
-        Edit::Delete => delete(alloc, text, spans, parts, at, value, given),
-        Edit::Replace => replace(alloc, text, nodes, parts, at, value, given),
-        Edit::ArrayPushLast => push_last(alloc, text, nodes, parts, at, value, given),
-        Edit::ArrayPushFirst => push_first(alloc, text, nodes, parts, at, value, given),
-        Edit::ArrayInsert => insert(alloc, text, nodes, parts, at, value, given),
-        Edit::ArrayAddUnique => add_unique(alloc, text, nodes, parts, at, value, given),
-        Edit::Counter => count(alloc, text, nodes, parts, at, value, given),
+        Edit::DictUpsert => replace(alloc, text, parts, at, value, given),
+        Edit::Delete => delete(alloc, text, parts, at, value, given),
+        Edit::Replace => replace(alloc, text, parts, at, value, given),
+        Edit::ArrayPushLast => push_last(alloc, text, parts, at, value, given),
+        Edit::ArrayPushFirst => push_first(alloc, text, parts, at, value, given),
+        Edit::ArrayInsert => insert(alloc, text, parts, at, value, given),
+        Edit::ArrayAddUnique => add_unique(alloc, text, parts, at, value, given),
+        Edit::Counter => count(alloc, text, parts, at, value, given),
     }
 }
 
@@ -262,15 +247,14 @@ fn make(
     one: bool,
     several: bool,
     text: &[u8],
-    spans: &Spans,
     parts: &[Part],
     followed: usize,
     value: &[u8],
     content: Content,
 ) -> Result<Plan, Refused>
-    requires missed { IsMissed text.now spans.now parts.now followed }
+    requires missed { IsMissed text.now parts.now followed }
     requires few { length parts.now ≤ PARTS_LIMIT }
-    ensures { MakesMember one several text.now value.now spans.now parts.now followed content
+    ensures { MakesMember one several text.now value.now parts.now followed content
         result }
 {
     let (front, absent) = parts.split_at(followed);
@@ -281,21 +265,12 @@ fn make(
         Some(around) => around,
         None => return Err(Refused::Status(Status::PATH_ENOENT)),
     };
-    let at = match find_parts(text, spans, front) {
-        Found::At(at) => at,
-        Found::Missing(_) => return Err(Refused::NoMemory),
-        Found::Mismatch(_) => return Err(Refused::NoMemory),
+    let at = match follow_of(alloc, text, front)? {
+        Led::At(at) => at,
+        Led::Missing(_) => return Err(Refused::NoMemory),
+        Led::Mismatch(_) => return Err(Refused::NoMemory),
     };
-    let plan = member_at(
-        alloc,
-        text,
-        nodes(spans),
-        at,
-        parts.len(),
-        &around,
-        value,
-        content,
-    )?;
+    let plan = member_at(alloc, text, at, parts.len(), &around, value, content)?;
     Ok(plan)
 }
 
@@ -314,15 +289,14 @@ fn insert_last(
     alloc: Global,
     several: bool,
     text: &[u8],
-    spans: &Spans,
     parts: &[Part],
     followed: usize,
     value: &[u8],
     given: Given,
 ) -> Result<Plan, Refused>
-    requires missed { IsMissed text.now spans.now parts.now followed }
+    requires missed { IsMissed text.now parts.now followed }
     requires few { length parts.now ≤ PARTS_LIMIT }
-    ensures { MissedDecides edits.ArrayInsert several text.now value.now spans.now parts.now
+    ensures { MissedDecides edits.ArrayInsert several text.now value.now parts.now
         followed given result }
 {
     let (front, absent) = parts.split_at(followed);
@@ -330,15 +304,15 @@ fn insert_last(
         Some(number) => number,
         None => return Err(Refused::Status(Status::PATH_ENOENT)),
     };
-    let at = match find_parts(text, spans, front) {
-        Found::At(at) => at,
-        Found::Missing(_) => return Err(Refused::NoMemory),
-        Found::Mismatch(_) => return Err(Refused::NoMemory),
+    let at = match follow_of(alloc, text, front)? {
+        Led::At(at) => at,
+        Led::Missing(_) => return Err(Refused::NoMemory),
+        Led::Mismatch(_) => return Err(Refused::NoMemory),
     };
-    if node_at(text, nodes(spans), at).children != number {
+    if json_walk::count(text, at) != number as u64 {
         return Err(Refused::Status(Status::PATH_ENOENT));
     }
-    let plan = push_at(alloc, text, nodes(spans), at, followed, value, given)?;
+    let plan = push_at(alloc, text, at, followed, value, given)?;
     Ok(plan)
 }
 
@@ -347,17 +321,16 @@ fn make_value(
     alloc: Global,
     several: bool,
     text: &[u8],
-    spans: &Spans,
     parts: &[Part],
     followed: usize,
     value: &[u8],
     given: Given,
 ) -> Result<Plan, Refused>
-    requires missed { IsMissed text.now spans.now parts.now followed }
+    requires missed { IsMissed text.now parts.now followed }
     requires few { length parts.now ≤ PARTS_LIMIT }
-    ensures adds { MissedDecides edits.DictAdd several text.now value.now spans.now parts.now
+    ensures adds { MissedDecides edits.DictAdd several text.now value.now parts.now
         followed given result }
-    ensures upserts { MissedDecides edits.DictUpsert several text.now value.now spans.now parts.now
+    ensures upserts { MissedDecides edits.DictUpsert several text.now value.now parts.now
         followed given result }
 {
     let content = Content {
@@ -367,9 +340,7 @@ fn make_value(
         depth: given.depth,
         number: None,
     };
-    make(
-        alloc, true, several, text, spans, parts, followed, value, content,
-    )
+    make(alloc, true, several, text, parts, followed, value, content)
 }
 
 /// An array of the given elements under new names.
@@ -377,20 +348,19 @@ fn make_array(
     alloc: Global,
     several: bool,
     text: &[u8],
-    spans: &Spans,
     parts: &[Part],
     followed: usize,
     value: &[u8],
     given: Given,
 ) -> Result<Plan, Refused>
-    requires missed { IsMissed text.now spans.now parts.now followed }
+    requires missed { IsMissed text.now parts.now followed }
     requires few { length parts.now ≤ PARTS_LIMIT }
     requires shallow { given.depth ≤ MOST_DEEP }
-    ensures last { MissedDecides edits.ArrayPushLast several text.now value.now spans.now parts.now
+    ensures last { MissedDecides edits.ArrayPushLast several text.now value.now parts.now
         followed given result }
-    ensures first { MissedDecides edits.ArrayPushFirst several text.now value.now spans.now
+    ensures first { MissedDecides edits.ArrayPushFirst several text.now value.now
         parts.now followed given result }
-    ensures unique { MissedDecides edits.ArrayAddUnique several text.now value.now spans.now
+    ensures unique { MissedDecides edits.ArrayAddUnique several text.now value.now
         parts.now followed given result }
 {
     let content = Content {
@@ -400,9 +370,7 @@ fn make_array(
         depth: given.depth + 1,
         number: None,
     };
-    make(
-        alloc, false, several, text, spans, parts, followed, value, content,
-    )
+    make(alloc, false, several, text, parts, followed, value, content)
 }
 
 /// A counter that begins at its delta, under new names.
@@ -410,15 +378,14 @@ fn make_counter(
     alloc: Global,
     several: bool,
     text: &[u8],
-    spans: &Spans,
     parts: &[Part],
     followed: usize,
     value: &[u8],
     given: Given,
 ) -> Result<Plan, Refused>
-    requires missed { IsMissed text.now spans.now parts.now followed }
+    requires missed { IsMissed text.now parts.now followed }
     requires few { length parts.now ≤ PARTS_LIMIT }
-    ensures { MissedDecides edits.Counter several text.now value.now spans.now parts.now followed
+    ensures { MissedDecides edits.Counter several text.now value.now parts.now followed
         given result }
 {
     let content = Content {
@@ -428,9 +395,7 @@ fn make_counter(
         depth: 0,
         number: Some(given.delta),
     };
-    make(
-        alloc, true, several, text, spans, parts, followed, value, content,
-    )
+    make(alloc, true, several, text, parts, followed, value, content)
 }
 
 /// What is done where the part number `followed` of the path names nothing.
@@ -439,36 +404,27 @@ fn at_gap(
     edit: Edit,
     several: bool,
     text: &[u8],
-    spans: &Spans,
     parts: &[Part],
     followed: usize,
     value: &[u8],
     given: Given,
 ) -> Result<Plan, Refused>
-    requires missed { IsMissed text.now spans.now parts.now followed }
+    requires missed { IsMissed text.now parts.now followed }
     requires few { length parts.now ≤ PARTS_LIMIT }
     requires read { IsGiven edit value.now given }
-    ensures { MissedDecides edit several text.now value.now spans.now parts.now followed given
+    ensures { MissedDecides edit several text.now value.now parts.now followed given
         result }
 {
     match edit {
-        Edit::DictAdd => make_value(alloc, several, text, spans, parts, followed, value, given),
-        Edit::DictUpsert => make_value(alloc, several, text, spans, parts, followed, value, given),
+        Edit::DictAdd => make_value(alloc, several, text, parts, followed, value, given),
+        Edit::DictUpsert => make_value(alloc, several, text, parts, followed, value, given),
         Edit::Delete => Err(Refused::Status(Status::PATH_ENOENT)),
         Edit::Replace => Err(Refused::Status(Status::PATH_ENOENT)),
-        Edit::ArrayPushLast => make_array(
-            alloc, several, text, spans, parts, followed, value, given,
-        ),
-        Edit::ArrayPushFirst => make_array(
-            alloc, several, text, spans, parts, followed, value, given,
-        ),
-        Edit::ArrayInsert => insert_last(
-            alloc, several, text, spans, parts, followed, value, given,
-        ),
-        Edit::ArrayAddUnique => make_array(
-            alloc, several, text, spans, parts, followed, value, given,
-        ),
-        Edit::Counter => make_counter(alloc, several, text, spans, parts, followed, value, given),
+        Edit::ArrayPushLast => make_array(alloc, several, text, parts, followed, value, given),
+        Edit::ArrayPushFirst => make_array(alloc, several, text, parts, followed, value, given),
+        Edit::ArrayInsert => insert_last(alloc, several, text, parts, followed, value, given),
+        Edit::ArrayAddUnique => make_array(alloc, several, text, parts, followed, value, given),
+        Edit::Counter => make_counter(alloc, several, text, parts, followed, value, given),
     }
 }
 
@@ -478,25 +434,22 @@ pub fn decide(
     edit: Edit,
     several: bool,
     text: &[u8],
-    spans: &Spans,
     parts: &[Part],
     value: &[u8],
     given: Given,
 ) -> Result<Plan, Refused>
-    requires values { AreSpans text.now spans.now }
+    requires text { IsDocument text.now }
     requires few { length parts.now ≤ PARTS_LIMIT }
     requires form { takes edit parts.now ≡ true }
     requires read { IsGiven edit value.now given }
     ensures { (d : Document) → IsText most_deep d text.now
         → DecidesGiven edit several text.now value.now parts.now given d result }
 {
-    match find_parts(text, spans, parts) {
-        Found::At(at) => at_value(alloc, edit, text, spans, parts, at, value, given),
-        Found::Missing(followed) => {
-            at_gap(
-                alloc, edit, several, text, spans, parts, followed, value, given,
-            )
+    match follow_of(alloc, text, parts)? {
+        Led::At(at) => at_value(alloc, edit, text, parts, at, value, given),
+        Led::Missing(followed) => {
+            at_gap(alloc, edit, several, text, parts, followed, value, given)
         }
-        Found::Mismatch(_) => Err(Refused::Status(Status::PATH_MISMATCH)),
+        Led::Mismatch(_) => Err(Refused::Status(Status::PATH_MISMATCH)),
     }
 }

@@ -12,7 +12,7 @@ ghost use Rattle.subdoc_edit.specs.Editing.{Makes, RefusesEdit, TellsEdit, IsPla
 
 use crate::deciding::decide;
 use crate::plan::Plan;
-use crate::reading::{path_of, spans_of};
+use crate::reading::{check_text, path_of};
 use crate::values::given_of;
 use crate::walking::cut;
 use doc_model::{Refused, Status};
@@ -162,21 +162,12 @@ fn edit_at(
     ensures { TellsEdit edit several text.now path.now value.now result }
 {
     let path = path_of(alloc, path)?;
-    let spans = spans_of(alloc, text)?;
+    check_text(text)?;
     if !takes(edit, path.parts()) {
         return Err(Refused::Status(Status::PATH_EINVAL));
     }
     let given = given_of(alloc, edit, value)?;
-    let plan = decide(
-        alloc,
-        edit,
-        several,
-        text,
-        &spans,
-        path.parts(),
-        value,
-        given,
-    )?;
+    let plan = decide(alloc, edit, several, text, path.parts(), value, given)?;
     finish(alloc, text, value, plan)
 }
 

@@ -77,6 +77,7 @@
 mod deciding;
 mod depths;
 mod editing;
+mod following;
 mod kinds;
 mod looking;
 mod numbers;

@@ -1,22 +1,22 @@
 //! Look-ups.
 
-ghost use Rattle.std.specs.Prelude.{◌≡◌, ℕ, List, Result, IsSome, IfOk, Err};
+ghost use Rattle.std.specs.Prelude.{◌≡◌, ℕ, ◌≤◌, List, length, Result, IsSome, IfOk, Err};
 ghost use Rattle.doc_model.specs.declared.status.Status.{Status};
 ghost use Rattle.json_model.specs.declared.asked.Lookup.{Lookup};
 ghost use Rattle.json_model.specs.Order.{Looks};
 ghost use Rattle.json_model.specs.Edit.{lookup_of};
-ghost use Rattle.json_model.specs.Spelled.{Tree, Fits};
-ghost use Rattle.json_spell.specs.declared.node.Span.{Span};
-ghost use Rattle.subdoc_path.specs.Standing.{Stands, IsStanding};
+ghost use Rattle.json_model.specs.Spelled.{Tree};
+ghost use Rattle.json_walk.specs.Places.{IsAt};
 ghost use Rattle.subdoc_edit.specs.Looking.{TellsLooked, TellsLook, Finds, RefusesLook};
 
+use crate::following::follow_of;
 use crate::kinds::holds_others;
-use crate::reading::{path_of, spans_of};
+use crate::reading::{check_text, path_of};
 use doc_model::{Refused, Status};
 use json_model::Lookup;
-use json_spell::{Node, nodes};
+use json_walk::{count, kind_at, value_end};
 use std::alloc::Global;
-use subdoc_path::{Found, find};
+use subdoc_path::Led;
 
 /// What a look-up found in a text.
 #[derive(Clone, Copy, Debug, PartialEq, Eq)]
@@ -42,35 +42,30 @@ pub fn lookup_of(opcode: u8) -> Option<Lookup>
     }
 }
 
-/// What a look-up finds in the value at this place in the list.
-fn looked(lookup: Lookup, text: &[u8], nodes: &[Node], at: usize) -> Result<Piece, Refused>
-    requires { IsStanding text.now nodes.now at }
-    ensures { (place : ℕ) (key : Span) (t : Tree) → Stands text.now nodes.now place at key t
-        → Fits t → TellsLooked lookup text.now t result }
+/// What a look-up finds in the value at this place.
+fn looked(lookup: Lookup, text: &[u8], at: usize) -> Result<Piece, Refused>
+    requires { at ≤ length text.now }
+    ensures { (t : Tree) → IsAt text.now at t → TellsLooked lookup text.now t result }
 {
-    let node = match nodes.get(at) {
-        Some(node) => *node,
-        None => return Err(Refused::NoMemory),
-    };
     match lookup {
         Lookup::Get => Ok(Piece {
-            from: node.from,
-            to: node.to,
+            from: at,
+            to: value_end(text, at),
             count: None,
         }),
         Lookup::Exists => Ok(Piece {
-            from: node.from,
-            to: node.from,
+            from: at,
+            to: at,
             count: None,
         }),
         Lookup::GetCount => {
-            if !holds_others(node.kind) {
+            if !holds_others(kind_at(text, at)) {
                 return Err(Refused::Status(Status::PATH_MISMATCH));
             }
             Ok(Piece {
-                from: node.from,
-                to: node.from,
-                count: Some(node.children as u64),
+                from: at,
+                to: at,
+                count: Some(count(text, at)),
             })
         }
     }
@@ -81,11 +76,12 @@ fn look_at(alloc: Global, lookup: Lookup, text: &[u8], path: &[u8]) -> Result<Pi
     ensures { TellsLook lookup text.now path.now result }
 {
     let path = path_of(alloc, path)?;
-    let spans = spans_of(alloc, text)?;
-    match find(text, &spans, &path) {
-        Found::At(at) => looked(lookup, text, nodes(&spans), at),
-        Found::Missing(_) => Err(Refused::Status(Status::PATH_ENOENT)),
-        Found::Mismatch(_) => Err(Refused::Status(Status::PATH_MISMATCH)),
+    check_text(text)?;
+    let led = follow_of(alloc, text, path.parts())?;
+    match led {
+        Led::At(at) => looked(lookup, text, at),
+        Led::Missing(_) => Err(Refused::Status(Status::PATH_ENOENT)),
+        Led::Mismatch(_) => Err(Refused::Status(Status::PATH_MISMATCH)),
     }
 }
 

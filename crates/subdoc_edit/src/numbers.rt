@@ -5,16 +5,17 @@ ghost use Rattle.std.specs.Int.{w64};
 ghost use Rattle.std.specs.List.{list_all};
 ghost use Rattle.json_model.specs.Grammar.{IsNumber};
 ghost use Rattle.json_model.specs.Edit.{is_digit, magnitude};
-ghost use Rattle.subdoc_path.specs.Standing.{IsStanding};
 ghost use Rattle.subdoc_edit.specs.Numbers.{TellsWhole, IsNumberPlan};
 ghost use Rattle.subdoc_edit.specs.Planning.{TellsCounter};
+ghost use Rattle.subdoc_edit.specs.Splicing.{IsStanding};
 
 use crate::plan::Plan;
 use crate::values::Given;
-use crate::walking::{cut, node_at};
+use crate::walking::cut;
 use doc_model::{Refused, Status};
 use json_model::{Kind, PARTS_LIMIT};
-use json_spell::Node;
+use json_spell::Span;
+use json_walk::{kind_at, value_end};
 use kv_edge::{Bytes, NoMemory};
 use std::alloc::Global;
 
@@ -81,27 +82,29 @@ fn whole_of(bytes: &[u8]) -> Whole
 pub fn counter_at(
     alloc: Global,
     text: &[u8],
-    nodes: &[Node],
     at: usize,
     followed: usize,
     value: &[u8],
     given: Given,
 ) -> Result<Plan, Refused>
-    requires stands { IsStanding text.now nodes.now at }
+    requires stands { IsStanding text.now at }
     requires few { followed ≤ PARTS_LIMIT }
-    ensures { TellsCounter text.now value.now nodes.now at followed given.delta result }
+    ensures { TellsCounter text.now value.now at followed given.delta result }
 {
-    let node = node_at(text, nodes, at);
-    if node.kind != Kind::Number {
+    if kind_at(text, at) != Kind::Number {
         return Err(Refused::Status(Status::PATH_MISMATCH));
     }
-    let old = match whole_of(cut(text, node.from, node.to)) {
+    let end = value_end(text, at);
+    let old = match whole_of(cut(text, at, end)) {
         Whole::Is(number) => number,
         Whole::Large => return Err(Refused::Status(Status::NUM_ERANGE)),
         Whole::Not => return Err(Refused::Status(Status::PATH_MISMATCH)),
     };
     match sum(old, given.delta) {
-        Some(number) => Ok(number_plan(alloc, node, followed, number)?),
+        Some(number) => {
+            let span = Span { from: at, to: end };
+            Ok(number_plan(alloc, span, followed, number)?)
+        }
         None => Err(Refused::Status(Status::VALUE_CANT_INSERT)),
     }
 }
@@ -114,13 +117,13 @@ fn sum(number: i64, delta: i64) -> Option<i64>
 }
 
 /// A number in place of a value.
-fn number_plan(alloc: Global, node: Node, followed: usize, number: i64) -> Result<Plan, NoMemory>
-    ensures { IfOk result (λ p. IsNumberPlan node followed number p) }
+fn number_plan(alloc: Global, span: Span, followed: usize, number: i64) -> Result<Plan, NoMemory>
+    ensures { IfOk result (λ p. IsNumberPlan span followed number p) }
 {
     let digits = format!(in alloc; "{number}")?;
     Ok(Plan {
-        from: node.from,
-        to: node.to,
+        from: span.from,
+        to: span.to,
         before: Bytes::from_slice(alloc, digits.as_bytes())?,
         value_from: 0,
         value_to: 0,

@@ -1,8 +1,7 @@
 //! What an edit is to write where: one splice of the text.
 
 ghost use Rattle.std.specs.Prelude.{◌≡◌, ◌≤◌, ◌++◌, false, IfOk};
-ghost use Rattle.subdoc_path.specs.Standing.{IsStanding};
-ghost use Rattle.subdoc_edit.specs.Splicing.{comma_if, IsPartOf};
+ghost use Rattle.subdoc_edit.specs.Splicing.{comma_if, IsStanding, IsPartOf};
 ghost use Rattle.subdoc_edit.specs.Planning.{PlansPut, PlansPush, PlansFront, PlansInsert};
 ghost use Rattle.subdoc_edit.specs.Planning.{PlansRemove, PlansMember, bracket_before};
 ghost use Rattle.subdoc_edit.specs.Planning.{bracket_behind};
@@ -10,9 +9,8 @@ ghost use Rattle.subdoc_edit.specs.Planning.{bracket_behind};
 use crate::parents::Around;
 use crate::places::{cut_of, end_of, front_of};
 use crate::values::Given;
-use crate::walking::node_at;
 use json_model::PARTS_LIMIT;
-use json_spell::Node;
+use json_walk::value_end;
 use kv_edge::{Bytes, NoMemory};
 use std::alloc::Global;
 
@@ -67,22 +65,20 @@ fn comma(alloc: Global, wanted: bool) -> Result<Bytes, NoMemory>
 pub fn put_at(
     alloc: Global,
     text: &[u8],
-    nodes: &[Node],
     at: usize,
     followed: usize,
     value: &[u8],
     content: Content,
 ) -> Plan
-    requires stands { IsStanding text.now nodes.now at }
+    requires stands { IsStanding text.now at }
     requires few { followed ≤ PARTS_LIMIT }
     requires bare { content.listed ≡ false }
-    ensures plan { PlansPut text.now value.now nodes.now at followed content result }
+    ensures plan { PlansPut text.now value.now at followed content result }
     ensures number { result.number ≡ content.number }
 {
-    let node = node_at(text, nodes, at);
     Plan {
-        from: node.from,
-        to: node.to,
+        from: at,
+        to: value_end(text, at),
         before: Bytes::new(alloc),
         value_from: content.from,
         value_to: content.to,
@@ -96,18 +92,17 @@ pub fn put_at(
 pub fn push_at(
     alloc: Global,
     text: &[u8],
-    nodes: &[Node],
     at: usize,
     followed: usize,
     value: &[u8],
     given: Given,
 ) -> Result<Plan, NoMemory>
-    requires stands { IsStanding text.now nodes.now at }
+    requires stands { IsStanding text.now at }
     requires few { followed ≤ PARTS_LIMIT }
-    ensures plan { IfOk result (λ p. PlansPush text.now value.now nodes.now at followed given p) }
+    ensures plan { IfOk result (λ p. PlansPush text.now value.now at followed given p) }
     ensures number { IfOk result (λ p. p.number ≡ None) }
 {
-    let gap = end_of(text, nodes, at);
+    let gap = end_of(text, at);
     Ok(Plan {
         from: gap.at,
         to: gap.at,
@@ -124,18 +119,17 @@ pub fn push_at(
 pub fn push_front_at(
     alloc: Global,
     text: &[u8],
-    nodes: &[Node],
     at: usize,
     followed: usize,
     value: &[u8],
     given: Given,
 ) -> Result<Plan, NoMemory>
-    requires stands { IsStanding text.now nodes.now at }
+    requires stands { IsStanding text.now at }
     requires few { followed ≤ PARTS_LIMIT }
-    ensures plan { IfOk result (λ p. PlansFront text.now value.now nodes.now at followed given p) }
+    ensures plan { IfOk result (λ p. PlansFront text.now value.now at followed given p) }
     ensures number { IfOk result (λ p. p.number ≡ None) }
 {
-    let gap = front_of(text, nodes, at);
+    let gap = front_of(text, at);
     Ok(Plan {
         from: gap.at,
         to: gap.at,
@@ -152,21 +146,19 @@ pub fn push_front_at(
 pub fn insert_at(
     alloc: Global,
     text: &[u8],
-    nodes: &[Node],
     at: usize,
     followed: usize,
     value: &[u8],
     given: Given,
 ) -> Result<Plan, NoMemory>
-    requires stands { IsStanding text.now nodes.now at }
+    requires stands { IsStanding text.now at }
     requires few { followed ≤ PARTS_LIMIT }
-    ensures plan { IfOk result (λ p. PlansInsert text.now value.now nodes.now at followed given p) }
+    ensures plan { IfOk result (λ p. PlansInsert text.now value.now at followed given p) }
     ensures number { IfOk result (λ p. p.number ≡ None) }
 {
-    let node = node_at(text, nodes, at);
     Ok(Plan {
-        from: node.from,
-        to: node.from,
+        from: at,
+        to: at,
         before: Bytes::new(alloc),
         value_from: given.from,
         value_to: given.to,
@@ -177,19 +169,12 @@ pub fn insert_at(
 }
 
 /// The part whose value is at `at` gone from the value at `whole`.
-pub fn remove_at(
-    alloc: Global,
-    text: &[u8],
-    nodes: &[Node],
-    whole: usize,
-    at: usize,
-    value: &[u8],
-) -> Plan
-    requires { IsPartOf text.now nodes.now whole at }
-    ensures plan { PlansRemove text.now value.now nodes.now whole at result }
+pub fn remove_at(alloc: Global, text: &[u8], whole: usize, at: usize, value: &[u8]) -> Plan
+    requires { IsPartOf text.now whole at }
+    ensures plan { PlansRemove text.now value.now whole at result }
     ensures number { result.number ≡ None }
 {
-    let span = cut_of(text, nodes, whole, at);
+    let span = cut_of(text, whole, at);
     Plan {
         from: span.from,
         to: span.to,
@@ -239,20 +224,19 @@ fn behind_new(alloc: Global, around: &Around, listed: bool) -> Result<Bytes, NoM
 pub fn member_at(
     alloc: Global,
     text: &[u8],
-    nodes: &[Node],
     at: usize,
     total: usize,
     around: &Around,
     value: &[u8],
     content: Content,
 ) -> Result<Plan, NoMemory>
-    requires stands { IsStanding text.now nodes.now at }
+    requires stands { IsStanding text.now at }
     requires few { total ≤ PARTS_LIMIT }
-    ensures plan { IfOk result (λ p. PlansMember text.now value.now nodes.now at total around.now
+    ensures plan { IfOk result (λ p. PlansMember text.now value.now at total around.now
         content p) }
     ensures number { IfOk result (λ p. p.number ≡ content.number) }
 {
-    let gap = end_of(text, nodes, at);
+    let gap = end_of(text, at);
     Ok(Plan {
         from: gap.at,
         to: gap.at,

@@ -3,11 +3,11 @@
 ghost use Rattle.std.specs.Prelude.{Ok, Err};
 ghost use Rattle.json_model.specs.Paths.{ReadsPath};
 ghost use Rattle.json_model.specs.Order.{ReadsText};
-ghost use Rattle.json_spell.specs.Places.{Spans as AreSpans};
+ghost use Rattle.subdoc_edit.specs.Splicing.{IsDocument};
 ghost use Rattle.subdoc_edit.specs.Telling.{Told};
 
 use doc_model::{Refused, Status};
-use json_spell::{Scanned, Spans, scan};
+use json_spell::{Judgement, judge_text};
 use std::alloc::Global;
 use subdoc_path::{Path, PathFault, read_path};
 
@@ -24,14 +24,13 @@ pub fn path_of(alloc: Global, bytes: &[u8]) -> Result<Path, Refused>
     }
 }
 
-/// The values of a document.
-pub fn spans_of(alloc: Global, text: &[u8]) -> Result<Spans, Refused>
-    ensures { Told (λ spans. AreSpans text.now spans) (λ s. ReadsText text.now (Err s)) result }
+/// Whether bytes are a JSON text at most 32 deep.
+pub fn check_text(text: &[u8]) -> Result<(), Refused>
+    ensures { Told (λ done. IsDocument text.now) (λ s. ReadsText text.now (Err s)) result }
 {
-    match scan(alloc, text) {
-        Scanned::Json(spans) => Ok(spans),
-        Scanned::Not(_) => Err(Refused::Status(Status::DOC_NOT_JSON)),
-        Scanned::Deep(_) => Err(Refused::Status(Status::DOC_E2DEEP)),
-        Scanned::NoMemory => Err(Refused::NoMemory),
+    match judge_text(text) {
+        Judgement::Json => Ok(()),
+        Judgement::Not(_) => Err(Refused::Status(Status::DOC_NOT_JSON)),
+        Judgement::Deep(_) => Err(Refused::Status(Status::DOC_E2DEEP)),
     }
 }

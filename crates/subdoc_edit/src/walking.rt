@@ -1,83 +1,51 @@
-//! From part to part by the list of nodes.
+//! From element to element of an array.
 
-ghost use Rattle.std.specs.Prelude.{◌≡◌, ◌-◌, ◌≤◌, length, take, drop, slice_index_or};
-ghost use Rattle.subdoc_path.specs.Standing.{IsStanding, AreElements, FindsElement};
-ghost use Rattle.subdoc_edit.specs.Parts.{AreParts, TellsLeaves, TellsText};
+ghost use Rattle.std.specs.Prelude.{◌≡◌, ◌-◌, ◌≤◌, length, take, drop};
+ghost use Rattle.subdoc_edit.specs.Parts.{TellsLeaves, TellsText};
 
 use crate::kinds::holds_others;
-use json_model::Kind;
-use json_spell::Node;
+use json_model::Shape;
+use json_walk::{first_part, kind_at, next_part, value_end};
 
-/// The node at this place in the list.
-pub fn node_at(text: &[u8], nodes: &[Node], at: usize) -> Node
-    requires { IsStanding text.now nodes.now at }
-    ensures { result ≡ slice_index_or nodes.now at result }
+/// Whether none of the elements of the array at `at` holds others.
+pub fn are_leaves(text: &[u8], at: usize) -> bool
+    requires { at ≤ length text.now }
+    ensures { TellsLeaves text.now at result }
 {
-    match nodes.get(at) {
-        Some(node) => *node,
-        None => Node {
-            kind: Kind::Null,
-            from: 0,
-            to: text.len(),
-            key_from: 0,
-            key_to: 0,
-            children: 0,
-            after: 0,
-        },
+    let first = match first_part(text, at) {
+        None => return true,
+        Some(first) => first,
+    };
+    if holds_others(kind_at(text, first.value)) {
+        return false;
     }
-}
-
-/// The place in the list of the value of the part of this number, of those whose values stand from
-/// `from` on.
-pub fn part(nodes: &[Node], from: usize, number: u32) -> usize
-    requires { AreElements nodes.now from number }
-    ensures { FindsElement nodes.now from number result }
-{
-    let mut next = from;
-    for _passed in 0..number {
-        match nodes.get(next) {
-            Some(node) => next = node.after as usize,
-            None => return next,
+    let mut end = value_end(text, first.value);
+    while let Some(part) = next_part(text, Shape::Array, end) {
+        if holds_others(kind_at(text, part.value)) {
+            return false;
         }
-    }
-    next
-}
-
-/// Whether none of so many parts, whose values stand from `from` on, holds others.
-pub fn are_leaves(text: &[u8], nodes: &[Node], from: usize, count: u32) -> bool
-    requires { AreParts text.now nodes.now from count }
-    ensures { TellsLeaves text.now nodes.now from count result }
-{
-    let mut next = from;
-    for _passed in 0..count {
-        match nodes.get(next) {
-            Some(node) => {
-                if holds_others(node.kind) {
-                    return false;
-                }
-                next = node.after as usize;
-            }
-            None => return false,
-        }
+        end = value_end(text, part.value);
     }
     true
 }
 
-/// Whether one of so many parts, whose values stand from `from` on, has this text.
-pub fn has_text(text: &[u8], nodes: &[Node], from: usize, count: u32, wanted: &[u8]) -> bool
-    requires { AreParts text.now nodes.now from count }
-    ensures { TellsText text.now nodes.now from count wanted.now result }
+/// Whether one of the elements of the array at `at` has this text.
+pub fn has_text(text: &[u8], at: usize, wanted: &[u8]) -> bool
+    requires { at ≤ length text.now }
+    ensures { TellsText text.now at wanted.now result }
 {
-    let mut next = from;
-    for _passed in 0..count {
-        match nodes.get(next) {
-            Some(node) => {
-                if cut(text, node.from, node.to) == wanted {
-                    return true;
-                }
-                next = node.after as usize;
-            }
-            None => return false,
+    let first = match first_part(text, at) {
+        None => return false,
+        Some(first) => first,
+    };
+    let mut end = value_end(text, first.value);
+    if cut(text, first.value, end) == wanted {
+        return true;
+    }
+    while let Some(part) = next_part(text, Shape::Array, end) {
+        end = value_end(text, part.value);
+        if cut(text, part.value, end) == wanted {
+            return true;
         }
     }
     false

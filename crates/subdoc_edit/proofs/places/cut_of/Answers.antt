@@ -1,51 +1,40 @@
-use Rattle.std.proofs.Common.{◌+◌, ◌-◌, ◌<◌, [], refl, arith}
-use Rattle.json_model.specs.Spelled.{count, Fits}
-use Rattle.subdoc_path.proofs.Following.{stands_inside}
-use Rattle.subdoc_edit.proofs.Placed.{part_there, next_there, cut_next, cut_last, cut_alone, many_parts}
-use Rattle.subdoc_edit.specs.Splicing.{start_of}
-use Rattle.subdoc_edit.proofs.Splices.{spliced_at}
+use Rattle.std.proofs.Common.{◌≡◌, Some, None, sym, subst, ◌∙◌}
+use Rattle.json_model.specs.declared.kinds.Shape.{Shape}
+use Rattle.json_model.specs.Spelled.{group}
+use Rattle.subdoc_edit.proofs.Pieces.{at_within, standing_within}
+use Rattle.subdoc_edit.proofs.Placed.{part_within, cut_some, cut_previous, cut_whole}
+use Rattle.subdoc_edit.specs.Splicing.{MeetsAt}
+use Rattle.subdoc_edit.proofs.Meeting.{TellsNext}
 use Rattle.subdoc_edit.proofs.places.cut_of.Goals as goal
 
-pub node_at-outer-requires : goal.node_at-outer-requires
-node_at-outer-requires c = let r = c.requires in (r.0, r.1, Rattle.json_model.specs.Spelled.group r.2 r.3, r.5, r.6)
+pub kind_at-requires : goal.kind_at-requires
+kind_at-requires c = let r = c.requires in at_within c.args.text.now c.args.whole (group r.0 r.1) r.3
 
-pub node_at-node-requires : goal.node_at-node-requires
-node_at-node-requires c =
+pub meet-met-requires : goal.meet-met-requires
+meet-met-requires c = let r = c.requires in at_within c.args.text.now c.args.whole (group r.0 r.1) r.3
+
+pub value_end-end-requires : goal.value_end-end-requires
+value_end-end-requires c =
     let r = c.requires in
-    part_there c.args.text.now c.args.nodes.now (r.0 + 1) (c.args.whole + 1) c.args.at r.2 r.3 r.4 (stands_inside c.args.text.now c.args.nodes.now r.0 c.args.whole r.1 r.2 r.3 r.5 r.6) r.7 r.8
+    standing_within c.args.text.now c.args.at (part_within c.args.text.now r.0 c.args.whole c.args.at r.1 r.2 r.3 r.4 r.5)
 
-pub node_at-next-requires : goal.node_at-next-requires
-node_at-next-requires c =
-    let r = c.requires in
-    next_there c.args.text.now c.args.nodes.now r.0 c.args.whole r.1 r.2 r.3 r.4 c.args.at r.5 r.6 r.7 r.8 c.node_at-outer.result c.node_at-node.result c.node_at-outer.ensures c.node_at-node.ensures c.if-node-outer.true
+pub returns-in-Some : goal.returns-in-Some
+returns-in-Some c shape ps k s few e =
+    let same : c.shape_of-shape.result ≡ shape = c.shape_of-shape.ensures shape (c.kind_at.ensures (group shape ps) s) in
+    let m = subst (λ (x : Shape). MeetsAt c.args.text.now x c.args.whole c.args.at c.meet-met.result) same c.meet-met.ensures ps k s few e in
+    let next = subst (λ (x : Shape). TellsNext c.args.text.now x c.value_end-end.result (Some c.in-Some.next)) same c.in-Some.ensures.found in
+    cut_some c.args.text.now shape c.args.whole c.args.at c.value_end-end.result c.meet-met.result.start c.in-Some.next ps k s few e m.0 (record { ends = c.value_end-end.ensures.found; next_is = next })
 
-pub returns-then-node-outer : goal.returns-then-node-outer
-returns-then-node-outer c at key shape ps k s fits few e =
-    spliced_at c.args.text.now _ [] (start_of c.node_at-outer.result.kind c.node_at-node.result) (start_of c.node_at-outer.result.kind c.node_at-next.result) c.start_of.result c.start_of-then-node-outer.result
-    (cut_next c.args.text.now c.args.nodes.now at c.args.whole key shape ps k c.args.at s fits few e c.node_at-outer.result c.node_at-node.result c.node_at-next.result c.node_at-outer.ensures c.node_at-node.ensures c.if-node-outer.true c.node_at-next.ensures)
-    c.start_of.ensures c.start_of-then-node-outer.ensures
+pub returns-in-Some-before : goal.returns-in-Some-before
+returns-in-Some-before c shape ps k s few e =
+    let same : c.shape_of-shape.result ≡ shape = c.shape_of-shape.ensures shape (c.kind_at.ensures (group shape ps) s) in
+    let m = subst (λ (x : Shape). MeetsAt c.args.text.now x c.args.whole c.args.at c.meet-met.result) same c.meet-met.ensures ps k s few e in
+    let next = subst (λ (x : Shape). TellsNext c.args.text.now x c.value_end-end.result None) same c.in-None.ensures.found in
+    cut_previous c.args.text.now shape c.args.whole c.args.at c.value_end-end.result c.in-Some-before.previous ps k s few e (sym c.in-Some-before.is ∙ m.1) (record { ends = c.value_end-end.ensures.found; next_is = next })
 
-pub part-requires : goal.part-requires
-part-requires c =
-    let r = c.requires in
-    let many = many_parts c.args.text.now c.args.nodes.now r.0 c.args.whole r.1 r.2 r.3 r.5 c.node_at-outer.result c.node_at-outer.ensures in
-    let less : c.node_at-outer.result.children - 2 < count r.3 = omega (arith, many, c.if-outer-gt1.true) in
-    (c.args.text.now, r.0 + 1, r.2, r.3, stands_inside c.args.text.now c.args.nodes.now r.0 c.args.whole r.1 r.2 r.3 r.5 r.6, less)
-
-pub node_at-previous-requires : goal.node_at-previous-requires
-node_at-previous-requires c =
-    let r = c.requires in
-    let many = many_parts c.args.text.now c.args.nodes.now r.0 c.args.whole r.1 r.2 r.3 r.5 c.node_at-outer.result c.node_at-outer.ensures in
-    let less : c.node_at-outer.result.children - 2 < count r.3 = omega (arith, many, c.if-outer-gt1.true) in
-    let inside = stands_inside c.args.text.now c.args.nodes.now r.0 c.args.whole r.1 r.2 r.3 r.5 r.6 in
-    part_there c.args.text.now c.args.nodes.now (r.0 + 1) (c.args.whole + 1) c.part.result r.2 r.3 (c.node_at-outer.result.children - 2) inside less (c.part.ensures c.args.text.now (r.0 + 1) r.2 r.3 inside less)
-
-pub returns-then-outer-gt1 : goal.returns-then-outer-gt1
-returns-then-outer-gt1 c at key shape ps k s fits few e =
-    cut_last c.args.text.now c.args.nodes.now at c.args.whole key shape ps k c.args.at s fits few e c.node_at-outer.result c.node_at-node.result c.node_at-previous.result c.part.result c.node_at-outer.ensures c.node_at-node.ensures c.if-node-outer.false c.if-outer-gt1.true c.part.ensures c.node_at-previous.ensures
-
-pub returns : goal.returns
-returns c at key shape ps k s fits few e =
-    spliced_at c.args.text.now _ [] (start_of c.node_at-outer.result.kind c.node_at-node.result) c.node_at-node.result.to c.start_of-2.result c.node_at-node.result.to
-    (cut_alone c.args.text.now c.args.nodes.now at c.args.whole key shape ps k c.args.at s fits few e c.node_at-outer.result c.node_at-node.result c.node_at-outer.ensures c.node_at-node.ensures c.if-outer-gt1.false)
-    c.start_of-2.ensures refl
+pub returns-in-None-before : goal.returns-in-None-before
+returns-in-None-before c shape ps k s few e =
+    let same : c.shape_of-shape.result ≡ shape = c.shape_of-shape.ensures shape (c.kind_at.ensures (group shape ps) s) in
+    let m = subst (λ (x : Shape). MeetsAt c.args.text.now x c.args.whole c.args.at c.meet-met.result) same c.meet-met.ensures ps k s few e in
+    let next = subst (λ (x : Shape). TellsNext c.args.text.now x c.value_end-end.result None) same c.in-None.ensures.found in
+    cut_whole c.args.text.now shape c.args.whole c.args.at c.value_end-end.result c.meet-met.result.start ps k s few e m.0 (sym c.in-None-before.is ∙ m.1) (record { ends = c.value_end-end.ensures.found; next_is = next })

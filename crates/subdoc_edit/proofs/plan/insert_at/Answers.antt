@@ -4,4 +4,4 @@ use Rattle.subdoc_edit.proofs.plan.insert_at.Goals as goal
 
 pub returns-clause-plan : goal.returns-clause-plan
 returns-clause-plan c d trail ps k whole new st few i long w =
-    insert_plan c.args.text.now c.args.value.now c.new.result c.in_ok-comma.field-0 c.args.nodes.now d trail ps k whole new c.args.at c.args.followed c.args.given c.node_at-node.result None c.new.ensures c.in_ok-comma.ensures c.node_at-node.ensures st few i long w
+    insert_plan c.args.text.now c.args.value.now c.new.result c.in_ok-comma.field-0 d trail ps k whole new c.args.at c.args.followed c.args.given None c.new.ensures c.in_ok-comma.ensures st few i long w

@@ -1,33 +1,43 @@
-use Rattle.std.proofs.Common.{◌≡◌, ◌<◌, true, false, sym, ◌∙◌, arith, rules}
-use Rattle.json_model.specs.Spelled.{count}
+use Rattle.std.proofs.Common.{◌≡◌, true, false, sym, ap, ◌∙◌, rules}
+use Rattle.json_walk.specs.Telling.{first_tree}
 use Rattle.subdoc_edit.specs.Kinds.{holds_others}
-use Rattle.subdoc_edit.proofs.Pieces.{says}
-use Rattle.subdoc_edit.proofs.Rest.{rest_none, rest_all, rest_there, rest_front, rest_more, leaves, leaf_is, leaf_not, leaves_skip, leaves_stop}
+use Rattle.subdoc_edit.proofs.Rest.{behind, no_first, element_first, element_next, rest_behind, rest_none, leaves, leaf_is, leaf_not, leaves_skip, leaves_stop}
 use Rattle.subdoc_edit.proofs.walking.are_leaves.Goals as goal
 
-pub loop-passed-init : goal.loop-passed-init
-loop-passed-init c at shape ps s e = rest_none leaves c.args.text.now c.args.nodes.now at c.args.from shape ps s
+pub returns-in-None : goal.returns-in-None
+returns-in-None c t trees s e = ap leaves (sym (no_first t c.args.at trees e (c.in-None.ensures.found t s)))
 
 pub returns-then-holds_others : goal.returns-then-holds_others
-returns-then-holds_others c at shape ps s e =
-    let less : c.loop-passed._passed < count ps = omega (arith, e, c.loop-passed-test.true) in
-    let f = rest_front leaves c.args.text.now c.args.nodes.now shape ps c.loop-passed._passed c.loop-passed.next c.in-Some.node.now (c.loop-passed.invariant at shape ps s e) less c.in-Some.ensures.lookup.1 in
-    let holds : holds_others c.in-Some.node.now.kind ≡ true = search rules in
-    sym (f.asked ∙ leaves_stop f.tree f.left (leaf_not f.tree f.at c.loop-passed.next c.in-Some.node.now f.says f.fits holds))
+returns-then-holds_others c t trees s e =
+    let x = element_first leaves c.args.text.now t c.args.at trees c.in-Some.first s e (c.in-Some.ensures.found t s) in
+    let holds : holds_others c.kind_at.result ≡ true = search rules in
+    sym (x.asked ∙ leaves_stop (first_tree x.left) (behind x.left) (leaf_not (first_tree x.left) c.kind_at.result x.stands.fits (c.kind_at.ensures (first_tree x.left) x.stands) holds))
 
-pub returns-in-None : goal.returns-in-None
-returns-in-None c at shape ps s e =
-    let less : c.loop-passed._passed < count ps = omega (arith, e, c.loop-passed-test.true) in
-    absurd (omega (arith, c.in-None.ensures.lookup.3, rest_there leaves c.args.text.now c.args.nodes.now shape ps c.loop-passed._passed c.loop-passed.next (c.loop-passed.invariant at shape ps s e) less))
+pub loop-part-init : goal.loop-part-init
+loop-part-init c = record {
+  within = c.value_end-end.ensures.within.1;
+  rest = λ t trees s e.
+      let x = element_first leaves c.args.text.now t c.args.at trees c.in-Some.first s e (c.in-Some.ensures.found t s) in
+      let holds : holds_others c.kind_at.result ≡ false = search rules in
+      rest_behind leaves c.args.text.now trees c.value_end-end.result c.in-Some.first x (c.value_end-end.ensures.found (first_tree x.left) x.stands)
+      (leaves_skip (first_tree x.left) (behind x.left) (leaf_is (first_tree x.left) c.kind_at.result (c.kind_at.ensures (first_tree x.left) x.stands) holds));
+}
 
-pub loop-passed-preserved : goal.loop-passed-preserved
-loop-passed-preserved c at shape ps s e =
-    let less : c.loop-passed._passed < count ps = omega (arith, e, c.loop-passed-test.true) in
-    let holds : holds_others c.in-Some.node.now.kind ≡ false = search rules in
-    rest_more leaves c.args.text.now c.args.nodes.now shape ps c.loop-passed._passed c.loop-passed.next c.in-Some.node.now (c.loop-passed.invariant at shape ps s e) less c.in-Some.ensures.lookup.1
-    (λ t ts a key st fits. leaves_skip t ts (leaf_is t a c.loop-passed.next c.in-Some.node.now (says c.args.text.now c.args.nodes.now a c.loop-passed.next key t c.in-Some.node.now st c.in-Some.ensures.lookup.1) fits holds))
+pub returns-then-holds_others-2 : goal.returns-then-holds_others-2
+returns-then-holds_others-2 c t trees s e =
+    let x = element_next leaves c.args.text.now trees c.loop-part.end c.in-Some-next_part.part (c.loop-part.invariant.rest t trees s e) c.in-Some-next_part.ensures.found in
+    let holds : holds_others c.kind_at-in-Some-next_part.result ≡ true = sym c.holds_others-in-Some-next_part.ensures ∙ c.if-holds_others-2.true in
+    sym (x.asked ∙ leaves_stop (first_tree x.left) (behind x.left) (leaf_not (first_tree x.left) c.kind_at-in-Some-next_part.result x.stands.fits (c.kind_at-in-Some-next_part.ensures (first_tree x.left) x.stands) holds))
+
+pub loop-part-preserved : goal.loop-part-preserved
+loop-part-preserved c = record {
+  within = c.value_end-end-in-Some-next_part.ensures.within.1;
+  rest = λ t trees s e.
+      let x = element_next leaves c.args.text.now trees c.loop-part.end c.in-Some-next_part.part (c.loop-part.invariant.rest t trees s e) c.in-Some-next_part.ensures.found in
+      let holds : holds_others c.kind_at-in-Some-next_part.result ≡ false = sym c.holds_others-in-Some-next_part.ensures ∙ c.if-holds_others-2.false in
+      rest_behind leaves c.args.text.now trees c.value_end-end-in-Some-next_part.result c.in-Some-next_part.part x (c.value_end-end-in-Some-next_part.ensures.found (first_tree x.left) x.stands)
+      (leaves_skip (first_tree x.left) (behind x.left) (leaf_is (first_tree x.left) c.kind_at-in-Some-next_part.result (c.kind_at-in-Some-next_part.ensures (first_tree x.left) x.stands) holds));
+}
 
 pub returns : goal.returns
-returns c at shape ps s e =
-    let all : c.loop-passed._passed ≡ count ps = omega (arith, e) in
-    sym (rest_all leaves c.args.text.now c.args.nodes.now shape ps c.loop-passed._passed c.loop-passed.next (c.loop-passed.invariant at shape ps s e) all)
+returns c t trees s e = sym (rest_none leaves c.args.text.now trees c.loop-part.end (c.loop-part.invariant.rest t trees s e) c.in_default.ensures.found)

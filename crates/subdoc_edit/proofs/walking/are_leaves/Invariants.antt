@@ -1,9 +1,16 @@
-use Rattle.std.proofs.Common.{◌≡◌, ℕ}
-use Rattle.json_model.specs.declared.kinds.Shape.{Shape}
-use Rattle.json_model.specs.Spelled.{Parts, count}
-use Rattle.subdoc_path.specs.Standing.{StandsParts}
+use Rattle.std.proofs.Common.{◌≡◌, ◌-◌, ◌≤◌, List, Some, length}
+use Rattle.json_model.specs.Spelled.{Tree}
+use Rattle.json_model.specs.Edit.{array_elements}
+use Rattle.json_walk.specs.Places.{IsAt}
 use Rattle.subdoc_edit.proofs.Rest.{Rest, leaves}
 use Rattle.subdoc_edit.proofs.walking.are_leaves.Given as goal
 
-abbrev pub invariant-loop-passed : goal.invariant-loop-passed
-invariant-loop-passed l = (at : ℕ) (shape : Shape) (ps : Parts) → StandsParts l.text l.nodes at l.from shape ps → l.count ≡ count ps → Rest leaves l.text l.nodes shape ps l._passed l.next
+-- the elements up to the one that ends here hold no others
+abbrev pub invariant-loop-part : goal.invariant-loop-part
+invariant-loop-part l = record {
+  within : l.end ≤ length l.text;
+  rest : (t : Tree) (trees : List Tree) → IsAt l.text l.at t → array_elements t ≡ Some trees → Rest leaves l.text trees l.end;
+}
+
+abbrev pub decreases-loop-part : goal.decreases-loop-part
+decreases-loop-part l = length l.text - l.end

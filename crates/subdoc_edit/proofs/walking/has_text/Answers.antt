@@ -1,44 +1,48 @@
-use Rattle.std.proofs.Common.{◌≡◌, ◌<◌, ℕ, nat_eq, List, true, false, sym, ap, ◌∙◌, arith, rules}
+use Rattle.std.proofs.Common.{◌≡◌, ℕ, nat_eq, List, true, false, sym, ap, ◌∙◌, rules}
 use Rattle.std.specs.Cmp.Lexicographic.{pointwise}
-use Rattle.json_model.specs.Spelled.{count}
-use Rattle.subdoc_edit.proofs.Pieces.{says, slice_of}
-use Rattle.subdoc_edit.proofs.Rest.{rest_none, rest_all, rest_there, rest_front, rest_more, texts, texts_skip, texts_stop}
+use Rattle.json_walk.specs.Telling.{first_tree}
+use Rattle.subdoc_edit.proofs.Pieces.{slice_of}
+use Rattle.subdoc_edit.proofs.Rest.{behind, no_first, element_first, element_next, rest_behind, rest_none, texts, texts_skip, texts_stop}
 use Rattle.subdoc_edit.proofs.walking.has_text.Goals as goal
 
-pub loop-passed-init : goal.loop-passed-init
-loop-passed-init c at shape ps s e = rest_none (texts c.args.wanted.now) c.args.text.now c.args.nodes.now at c.args.from shape ps s
-
-pub cut-requires : goal.cut-requires
-cut-requires c =
-    let r = c.requires in
-    let less : c.loop-passed._passed < count r.2 = omega (arith, r.4, c.loop-passed-test.true) in
-    let f = rest_front (texts c.args.wanted.now) c.args.text.now c.args.nodes.now r.1 r.2 c.loop-passed._passed c.loop-passed.next c.in-Some.node.now (c.loop-passed.invariant r.0 r.1 r.2 r.3 r.4) less c.in-Some.ensures.lookup.1 in
-    let x = slice_of c.args.text.now c.args.nodes.now f.at c.loop-passed.next f.key f.tree c.in-Some.node.now f.stands f.says in
-    (x.ordered, x.within)
+pub returns-in-None : goal.returns-in-None
+returns-in-None c t trees s e = ap (texts c.args.wanted.now) (sym (no_first t c.args.at trees e (c.in-None.ensures.found t s)))
 
 pub returns-then-eq : goal.returns-then-eq
-returns-then-eq c at shape ps s e =
-    let less : c.loop-passed._passed < count ps = omega (arith, e, c.loop-passed-test.true) in
-    let f = rest_front (texts c.args.wanted.now) c.args.text.now c.args.nodes.now shape ps c.loop-passed._passed c.loop-passed.next c.in-Some.node.now (c.loop-passed.invariant at shape ps s e) less c.in-Some.ensures.lookup.1 in
-    let x = slice_of c.args.text.now c.args.nodes.now f.at c.loop-passed.next f.key f.tree c.in-Some.node.now f.stands f.says in
+returns-then-eq c t trees s e =
+    let x = element_first (texts c.args.wanted.now) c.args.text.now t c.args.at trees c.in-Some.first s e (c.in-Some.ensures.found t s) in
+    let y = slice_of c.args.text.now c.in-Some.first.value c.value_end-end.result (first_tree x.left) x.stands (c.value_end-end.ensures.found (first_tree x.left) x.stands) in
     let same : pointwise nat_eq c.cut.result.now c.args.wanted.now ≡ true = search rules in
-    sym (f.asked ∙ texts_stop c.args.wanted.now f.tree f.left (ap (λ (l : List ℕ). pointwise nat_eq l c.args.wanted.now) (sym (c.cut.ensures ∙ x.slice)) ∙ same))
+    sym (x.asked ∙ texts_stop c.args.wanted.now (first_tree x.left) (behind x.left) (ap (λ (l : List ℕ). pointwise nat_eq l c.args.wanted.now) (sym (c.cut.ensures ∙ y.slice)) ∙ same))
 
-pub returns-in-None : goal.returns-in-None
-returns-in-None c at shape ps s e =
-    let less : c.loop-passed._passed < count ps = omega (arith, e, c.loop-passed-test.true) in
-    absurd (omega (arith, c.in-None.ensures.lookup.3, rest_there (texts c.args.wanted.now) c.args.text.now c.args.nodes.now shape ps c.loop-passed._passed c.loop-passed.next (c.loop-passed.invariant at shape ps s e) less))
+pub loop-part-init : goal.loop-part-init
+loop-part-init c = record {
+  within = c.value_end-end.ensures.within.1;
+  rest = λ t trees s e.
+      let x = element_first (texts c.args.wanted.now) c.args.text.now t c.args.at trees c.in-Some.first s e (c.in-Some.ensures.found t s) in
+      let y = slice_of c.args.text.now c.in-Some.first.value c.value_end-end.result (first_tree x.left) x.stands (c.value_end-end.ensures.found (first_tree x.left) x.stands) in
+      let other : pointwise nat_eq c.cut.result.now c.args.wanted.now ≡ false = search rules in
+      rest_behind (texts c.args.wanted.now) c.args.text.now trees c.value_end-end.result c.in-Some.first x (c.value_end-end.ensures.found (first_tree x.left) x.stands)
+      (texts_skip c.args.wanted.now (first_tree x.left) (behind x.left) (ap (λ (l : List ℕ). pointwise nat_eq l c.args.wanted.now) (sym (c.cut.ensures ∙ y.slice)) ∙ other));
+}
 
-pub loop-passed-preserved : goal.loop-passed-preserved
-loop-passed-preserved c at shape ps s e =
-    let less : c.loop-passed._passed < count ps = omega (arith, e, c.loop-passed-test.true) in
-    let other : pointwise nat_eq c.cut.result.now c.args.wanted.now ≡ false = search rules in
-    rest_more (texts c.args.wanted.now) c.args.text.now c.args.nodes.now shape ps c.loop-passed._passed c.loop-passed.next c.in-Some.node.now (c.loop-passed.invariant at shape ps s e) less c.in-Some.ensures.lookup.1
-    (λ t ts a key st fits.
-    let x = slice_of c.args.text.now c.args.nodes.now a c.loop-passed.next key t c.in-Some.node.now st (says c.args.text.now c.args.nodes.now a c.loop-passed.next key t c.in-Some.node.now st c.in-Some.ensures.lookup.1) in
-    texts_skip c.args.wanted.now t ts (ap (λ (l : List ℕ). pointwise nat_eq l c.args.wanted.now) (sym (c.cut.ensures ∙ x.slice)) ∙ other))
+pub returns-then-eq-2 : goal.returns-then-eq-2
+returns-then-eq-2 c t trees s e =
+    let x = element_next (texts c.args.wanted.now) c.args.text.now trees c.loop-part.end c.in-Some-next_part.part (c.loop-part.invariant.rest t trees s e) c.in-Some-next_part.ensures.found in
+    let y = slice_of c.args.text.now c.in-Some-next_part.part.value c.value_end-end-in-Some-next_part.result (first_tree x.left) x.stands (c.value_end-end-in-Some-next_part.ensures.found (first_tree x.left) x.stands) in
+    let same : pointwise nat_eq c.cut-in-Some-next_part.result.now c.args.wanted.now ≡ true = search rules in
+    sym (x.asked ∙ texts_stop c.args.wanted.now (first_tree x.left) (behind x.left) (ap (λ (l : List ℕ). pointwise nat_eq l c.args.wanted.now) (sym (c.cut-in-Some-next_part.ensures ∙ y.slice)) ∙ same))
+
+pub loop-part-preserved : goal.loop-part-preserved
+loop-part-preserved c = record {
+  within = c.value_end-end-in-Some-next_part.ensures.within.1;
+  rest = λ t trees s e.
+      let x = element_next (texts c.args.wanted.now) c.args.text.now trees c.loop-part.end c.in-Some-next_part.part (c.loop-part.invariant.rest t trees s e) c.in-Some-next_part.ensures.found in
+      let y = slice_of c.args.text.now c.in-Some-next_part.part.value c.value_end-end-in-Some-next_part.result (first_tree x.left) x.stands (c.value_end-end-in-Some-next_part.ensures.found (first_tree x.left) x.stands) in
+      let other : pointwise nat_eq c.cut-in-Some-next_part.result.now c.args.wanted.now ≡ false = search rules in
+      rest_behind (texts c.args.wanted.now) c.args.text.now trees c.value_end-end-in-Some-next_part.result c.in-Some-next_part.part x (c.value_end-end-in-Some-next_part.ensures.found (first_tree x.left) x.stands)
+      (texts_skip c.args.wanted.now (first_tree x.left) (behind x.left) (ap (λ (l : List ℕ). pointwise nat_eq l c.args.wanted.now) (sym (c.cut-in-Some-next_part.ensures ∙ y.slice)) ∙ other));
+}
 
 pub returns : goal.returns
-returns c at shape ps s e =
-    let all : c.loop-passed._passed ≡ count ps = omega (arith, e) in
-    sym (rest_all (texts c.args.wanted.now) c.args.text.now c.args.nodes.now shape ps c.loop-passed._passed c.loop-passed.next (c.loop-passed.invariant at shape ps s e) all)
+returns c t trees s e = sym (rest_none (texts c.args.wanted.now) c.args.text.now trees c.loop-part.end (c.loop-part.invariant.rest t trees s e) c.in_default.ensures.found)
