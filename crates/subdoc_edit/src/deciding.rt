@@ -12,7 +12,6 @@ ghost use Rattle.subdoc_edit.specs.Planning.{FoundDecides, MissedDecides, IsFoun
 ghost use Rattle.subdoc_edit.specs.Planning.{TellsArray, TellsSet, MakesMember, TellsIndex};
 ghost use Rattle.subdoc_edit.specs.Planning.{DecidesGiven};
 
-use crate::following::follow_of;
 use crate::numbers::counter_at;
 use crate::parents::around_of;
 use crate::plan::{Content, Plan, insert_at, member_at, push_at, push_front_at, put_at, remove_at};
@@ -22,7 +21,7 @@ use doc_model::{Refused, Status};
 use json_model::{Edit, Kind, MOST_DEEP, PARTS_LIMIT, Part};
 use json_walk::kind_at;
 use std::alloc::Global;
-use subdoc_path::Led;
+use subdoc_path::{Led, follow};
 
 // ---- where the path leads to a value
 
@@ -66,7 +65,7 @@ fn delete(
     ensures { FoundDecides edits.Delete text.now value.now parts.now at given result }
 {
     let (front, _) = parts.split_at(parts.len() - 1);
-    match follow_of(alloc, text, front)? {
+    match follow(text, front) {
         Led::At(whole) => Ok(remove_at(alloc, text, whole, at, value)),
         Led::Missing(_) => Err(Refused::NoMemory),
         Led::Mismatch(_) => Err(Refused::NoMemory),
@@ -265,7 +264,7 @@ fn make(
         Some(around) => around,
         None => return Err(Refused::Status(Status::PATH_ENOENT)),
     };
-    let at = match follow_of(alloc, text, front)? {
+    let at = match follow(text, front) {
         Led::At(at) => at,
         Led::Missing(_) => return Err(Refused::NoMemory),
         Led::Mismatch(_) => return Err(Refused::NoMemory),
@@ -304,7 +303,7 @@ fn insert_last(
         Some(number) => number,
         None => return Err(Refused::Status(Status::PATH_ENOENT)),
     };
-    let at = match follow_of(alloc, text, front)? {
+    let at = match follow(text, front) {
         Led::At(at) => at,
         Led::Missing(_) => return Err(Refused::NoMemory),
         Led::Mismatch(_) => return Err(Refused::NoMemory),
@@ -445,7 +444,7 @@ pub fn decide(
     ensures { (d : Document) → IsText most_deep d text.now
         → DecidesGiven edit several text.now value.now parts.now given d result }
 {
-    match follow_of(alloc, text, parts)? {
+    match follow(text, parts) {
         Led::At(at) => at_value(alloc, edit, text, parts, at, value, given),
         Led::Missing(followed) => {
             at_gap(alloc, edit, several, text, parts, followed, value, given)

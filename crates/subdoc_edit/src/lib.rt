@@ -77,7 +77,6 @@
 mod deciding;
 mod depths;
 mod editing;
-mod following;
 mod kinds;
 mod looking;
 mod numbers;

@@ -9,14 +9,13 @@ ghost use Rattle.json_model.specs.Spelled.{Tree};
 ghost use Rattle.json_walk.specs.Places.{IsAt};
 ghost use Rattle.subdoc_edit.specs.Looking.{TellsLooked, TellsLook, Finds, RefusesLook};
 
-use crate::following::follow_of;
 use crate::kinds::holds_others;
 use crate::reading::{check_text, path_of};
 use doc_model::{Refused, Status};
 use json_model::Lookup;
 use json_walk::{count, kind_at, value_end};
 use std::alloc::Global;
-use subdoc_path::Led;
+use subdoc_path::{Led, follow};
 
 /// What a look-up found in a text.
 #[derive(Clone, Copy, Debug, PartialEq, Eq)]
@@ -77,7 +76,7 @@ fn look_at(alloc: Global, lookup: Lookup, text: &[u8], path: &[u8]) -> Result<Pi
 {
     let path = path_of(alloc, path)?;
     check_text(text)?;
-    let led = follow_of(alloc, text, path.parts())?;
+    let led = follow(text, path.parts());
     match led {
         Led::At(at) => looked(lookup, text, at),
         Led::Missing(_) => Err(Refused::Status(Status::PATH_ENOENT)),

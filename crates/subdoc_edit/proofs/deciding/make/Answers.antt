@@ -18,17 +18,17 @@ returns-in-None c =
     makes_none c.args.one c.args.several c.may_make.result c.args.text.now c.args.value.now c.args.parts.now c.split_at.result.1.now c.args.followed c.args.content c.split_at.ensures.back c.may_make.ensures c.if-not-may_make.false
     (subst (λ (o : Option Around). IsAround c.split_at.result.1.now o) c.in-None.is c.in_ok-around.ensures)
 
-pub follow_of-requires : goal.follow_of-requires
-follow_of-requires c = let m = c.requires.missed in (m.0, m.1.is)
+pub follow-requires : goal.follow-requires
+follow-requires c = let m = c.requires.missed in (m.0, m.1.is)
 
 pub member_at-requires-clause-stands : goal.member_at-requires-clause-stands
 member_at-requires-clause-stands c =
     let m = c.requires.missed in
     missed_stands c.args.text.now c.args.parts.now c.split_at.result.0.now m.0 c.args.followed c.in-At.at m.1 c.split_at.ensures.front
-    (led_as c.args.text.now c.split_at.result.0.now m.0 c.in_ok-at.field-0 (led.At c.in-At.at) c.in-At.is (c.in_ok-at.ensures m.0 m.1.is))
+    (led_as c.args.text.now c.split_at.result.0.now m.0 c.follow.result (led.At c.in-At.at) c.in-At.is (c.follow.ensures m.0 m.1.is))
 
 pub returns : goal.returns
 returns c =
     makes_one c.args.one c.args.several c.may_make.result c.args.text.now c.args.value.now c.args.parts.now c.split_at.result.0.now c.split_at.result.1.now c.args.followed c.in-At.at c.args.content c.in-Some.around c.in_ok-plan.plan c.split_at.ensures.front c.split_at.ensures.back c.may_make.ensures c.if-not-may_make.false
     (subst (λ (o : Option Around). IsAround c.split_at.result.1.now o) c.in-Some.is c.in_ok-around.ensures)
-    (λ d is. led_as c.args.text.now c.split_at.result.0.now d c.in_ok-at.field-0 (led.At c.in-At.at) c.in-At.is (c.in_ok-at.ensures d is)) c.in_ok-plan.ensures.plan c.in_ok-plan.ensures.number
+    (λ d is. led_as c.args.text.now c.split_at.result.0.now d c.follow.result (led.At c.in-At.at) c.in-At.is (c.follow.ensures d is)) c.in_ok-plan.ensures.plan c.in_ok-plan.ensures.number
