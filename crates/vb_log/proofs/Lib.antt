@@ -1,0 +1,5 @@
+pub mod Logs
+pub mod Collections
+pub mod Waiting
+pub mod Joins
+pub mod Totals

@@ -1,0 +1,67 @@
+//! Laws of logs. Each function does nothing; its contract is the law.
+
+ghost use Rattle.std.specs.Prelude.{◌≡◌, List, length};
+ghost use Rattle.vb_log.specs.declared.entry.Entry.{Entry};
+ghost use Rattle.vb_log.specs.declared.entry.Entry.TheVariants as entries;
+ghost use Rattle.vb_log.specs.Content.{content_of};
+ghost use Rattle.vb_log.specs.Logs.{whole_logs, folds, IsFaithful};
+ghost use Rattle.vb_log.specs.Parts.{JoinsBack};
+ghost use Rattle.vb_log.specs.Laws.{WaitsAsPrepared, PrepareShowsNothing, PrepareWaits};
+ghost use Rattle.vb_log.specs.Laws.{CommitShows, CommitLeavesOthers, CommitOfDropped, EndsOne};
+ghost use Rattle.vb_log.specs.Laws.{AbortShowsNothing, DroppedHasNothing, ManifestLeavesOthers};
+ghost use Rattle.vb_log.specs.Laws.{MutationCounts, DeletionCounts, PrepareCounts};
+
+/// What of a log's content lies behind a position, joined to what the log comes to up to there, is
+/// what the whole log comes to.
+pub fn parts_join_back()
+    ensures { JoinsBack }
+{}
+
+/// A log that is kept whole and one that is kept as what it comes to both follow their entries.
+pub fn folds_follow_their_entries()
+    ensures whole { IsFaithful whole_logs }
+    ensures folds { IsFaithful folds }
+{}
+
+/// A content counts the entries of its log.
+pub fn length_counts_entries()
+    ensures { (log : List Entry) → (content_of log).length ≡ length log }
+{}
+
+/// A Prepare changes what no key has. What it says waits from then on, and what waits is what a
+/// Prepare of the log says.
+pub fn prepare_shows_nothing()
+    ensures shows { PrepareShowsNothing }
+    ensures waits { PrepareWaits }
+    ensures prepared { WaitsAsPrepared }
+{}
+
+/// A Commit gives the key what its Prepare says, at the Commit's own position, and changes what no
+/// other key has; where the collection was dropped meanwhile, it gives nothing. It ends the wait of
+/// that change alone.
+pub fn commit_shows_what_was_prepared()
+    ensures shows { CommitShows }
+    ensures others { CommitLeavesOthers }
+    ensures dropped { CommitOfDropped }
+    ensures ends { EndsOne (λ of. entries.Commit of) }
+{}
+
+/// An Abort ends the wait of the change that it names, and changes what no key has.
+pub fn abort_only_ends_its_prepare()
+    ensures shows { AbortShowsNothing }
+    ensures ends { EndsOne (λ of. entries.Abort of) }
+{}
+
+/// A manifest takes the items of the collections that it drops, so that keys of a collection that
+/// isn't there have nothing, and leaves the items of the others.
+pub fn manifest_takes_what_it_drops()
+    ensures taken { DroppedHasNothing }
+    ensures left { ManifestLeavesOthers }
+{}
+
+/// What a key gets counts in place of what it had, and a change that waits beside it.
+pub fn changes_count_once()
+    ensures mutation { MutationCounts }
+    ensures deletion { DeletionCounts }
+    ensures prepare { PrepareCounts }
+{}
