@@ -29,6 +29,7 @@ use Rattle.subdoc_edit.specs.declared.plan.Plan.{Plan}
 use Rattle.subdoc_edit.specs.declared.plan.Content.{Content}
 use Rattle.subdoc_edit.specs.Given.{IsTree, IsParts, Describes, IsCutOut, given_bytes}
 use Rattle.subdoc_edit.specs.Splicing.{IsArray, Holds, IsStanding, IsPartOf, value_in}
+use Rattle.subdoc_edit.specs.Parts.{TellsLeaves, TellsText}
 use Rattle.subdoc_edit.specs.Planning.{Plans, LeadsTo, IsNew, IsContent, PlansPut, PlansPush, PlansInsert, PlansRemove, Decides, TellsArray, TellsSet, TellsCounter}
 use Rattle.subdoc_edit.proofs.Spots.{text_place, stands_of, place_is}
 use Rattle.subdoc_edit.proofs.Trails.{leads_at, trail_long, inner, fronts, fronts_take, child_few, above_long, told_at}
@@ -264,6 +265,14 @@ insert_decides several bytes value parts d at g p asked form plans number l give
 -- what is asked of the elements of an array
 pub set_no_array : (t : Tree) (kind : Kind) (wanted : List ℕ) → kind ≡ tree_kind t → (kind ≡ kinds.Array → ⊥) → TellsSet t wanted (Some status.PATH_MISMATCH)
 set_no_array t kind wanted is k done = ap (λ (e : Option (List Tree)). to_set e wanted done) (array_no t kind is k)
+
+-- what was told of the elements, as it came out
+pub leaves_told : (bytes : List ℕ) (at : ℕ) (answer came : Bool) (t : Tree) (trees : List Tree) → TellsLeaves bytes at answer → IsAt bytes at t → array_elements t ≡ Some trees → answer ≡ came → list_all is_leaf trees ≡ came
+leaves_told bytes at answer came t trees tells s e is = sym (tells t trees s e) ∙ is
+
+pub text_told : (bytes : List ℕ) (at : ℕ) (wanted : List ℕ) (answer came : Bool) (t : Tree) (trees : List Tree) → TellsText bytes at wanted answer → IsAt bytes at t → array_elements t ≡ Some trees → answer ≡ came
+    → list_any (λ u. pointwise nat_eq (text u) wanted) trees ≡ came
+text_told bytes at wanted answer came t trees tells s e is = sym (tells t trees s e) ∙ is
 
 pub set_groups : (t : Tree) (trees : List Tree) (wanted : List ℕ) → array_elements t ≡ Some trees → list_all is_leaf trees ≡ false → TellsSet t wanted (Some status.PATH_MISMATCH)
 set_groups t trees wanted e held done =

@@ -3,7 +3,8 @@
 //! A look-up finds the bytes of a value where they stand, or how many members or elements it has.
 //! It copies nothing: a `Piece` names the bytes by their places in the text. An edit makes a new
 //! text: one splice of the old one, in one allocation of just its size. What stands beside the
-//! change keeps its bytes, blanks and all, and a text that is refused is left as it was.
+//! change keeps its bytes, blanks and all, and a text that is refused is left as it was. Places are
+//! found by walking in the text: no list of its values is made.
 //!
 //! # Opcodes
 //!
