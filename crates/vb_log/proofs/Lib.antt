@@ -3,3 +3,5 @@ pub mod Collections
 pub mod Waiting
 pub mod Joins
 pub mod Totals
+pub mod Layouts
+pub mod Pieces

@@ -49,11 +49,18 @@
 //! content of the first three entries they are the content of the whole.
 #![tactic(auto)]
 
+mod documents;
 mod entry;
+mod fields;
+mod keys;
+mod kinds;
 mod laws;
 mod limits;
+mod reading;
+mod writing;
 
 pub use entry::{Entry, Pending};
+pub use reading::{ContentFault, read_entry};
 pub use laws::{
     abort_only_ends_its_prepare, changes_count_once, commit_shows_what_was_prepared,
     folds_follow_their_entries, length_counts_entries, manifest_takes_what_it_drops,
@@ -63,3 +70,7 @@ pub use limits::{
     CONTENT_LIMIT, GREATEST_CAS, GREATEST_LEVEL, GREATEST_POSITION, ITEM_OVERHEAD, LOG_LIMIT,
     SECTION_LIMIT, SPELT_KEY_LIMIT, SUM_LIMIT, log_numbers,
 };
+pub use writing::entry_into;
+
+#[cfg(test)]
+mod tests;
