@@ -5,3 +5,5 @@ pub mod Joins
 pub mod Totals
 pub mod Layouts
 pub mod Pieces
+pub mod Spelt
+pub mod Entries

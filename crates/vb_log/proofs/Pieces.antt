@@ -1,9 +1,9 @@
 -- From the layout of a part of an entry to what follows it.
-use Rattle.std.specs.Prelude.{◌≡◌, ℕ, ◌+◌, ◌-◌, ◌≤◌, ◌<◌, ◌^◌, nat_eq, Bool, true, false, List, [], ◌∷◌, ◌++◌, length, if◌then◌else◌, Result, Ok, Err, IfErr, IsErrAnd, refl}
+use Rattle.std.specs.Prelude.{◌≡◌, ℕ, ◌+◌, ◌-◌, ◌≤◌, ◌<◌, ◌^◌, nat_eq, Bool, true, false, List, [], ◌∷◌, ◌++◌, length, if◌then◌else◌, is_some, Option, Some, None, Result, Ok, Err, IfErr, IsErrAnd, refl}
 use Rattle.std.specs.Int.{w32, w64, to_be_bytes, from_bool}
-use Rattle.std.proofs.Common.{sym, ap, ◌∙◌, subst, append_assoc, arith}
+use Rattle.std.proofs.Common.{inl, inr, sym, ap, ◌∙◌, subst, append_assoc, arith}
 use Rattle.std.proofs.lemmas.List.{length-append}
-use Rattle.std.proofs.lemmas.Bool.{eqb-true}
+use Rattle.std.proofs.lemmas.Bool.{eqb-true, false≢true}
 use Rattle.leb_collections.specs.Functions.{id_bytes}
 use Rattle.leb_collections.proofs.Laws.{id_bytes_short}
 use Rattle.doc_model.specs.declared.key.DocKey.{DocKey}
@@ -11,15 +11,20 @@ use Rattle.doc_model.specs.declared.document.Doc.{Doc}
 use Rattle.doc_model.specs.declared.document.What.{What}
 use Rattle.doc_model.specs.declared.document.What.TheVariants as whats
 use Rattle.doc_model.specs.declared.limits.TheConstants.{VALUE_LIMIT, KEY_LIMIT, OTHER_KEY_LIMIT}
+use Rattle.std.specs.Str.{IsUtf8, is_utf8}
+use Rattle.std.proofs.lemmas.Str.{IsUtf8-from_is_utf8}
+use Rattle.manifest_rules.specs.Catalog.{Catalog}
+use Rattle.manifest_rules.specs.Form.{catalog_in, manifest_in}
+use Rattle.manifest_rules.proofs.Outcomes.{read_is}
 use Rattle.vb_log.specs.declared.limits.TheConstants.{GREATEST_CAS, SECTION_LIMIT, SPELT_KEY_LIMIT}
 use Rattle.vb_log.specs.declared.documents.Head.{Head}
 use Rattle.vb_log.specs.declared.fields.FieldFault.{FieldFault}
 use Rattle.vb_log.specs.Keys.{name_limit, IsAllowedKey, spelt_key, key_bytes}
-use Rattle.vb_log.specs.Layout.{four, eight, Form, as_value, as_key, as_section, Spells, Layout, byte, number, run, ByteAt, NumberAt, RunAt}
+use Rattle.vb_log.specs.Layout.{four, eight, Form, as_value, as_key, as_section, as_manifest, Spells, Layout, byte, number, run, ByteAt, NumberAt, RunAt, Breaks}
 use Rattle.vb_log.specs.Spelling.{IsAllowedDoc, sized, head_bytes, doc_bytes, what_bytes, sized_layout, key_layout, cas_layout, word_layout, head_layout, attributes_layout, value_layout, doc_layout, what_layout}
 use Rattle.vb_log.specs.Reading.{SizedAt, AttributesAt, KeyAt, CasAt, HeadAt, DocAt, WhatAt}
 use Rattle.vb_log.specs.Faults.{IsBroken}
-use Rattle.vb_log.proofs.Layouts.{Leads, leads_on, byte_leads, number_leads, run_leads, broken_behind}
+use Rattle.vb_log.proofs.Layouts.{same_run, Leads, leads_on, byte_leads, number_leads, run_leads, broken_behind}
 
 -- what a `?` hands on
 pub handed : {T : Type 0} (r : Result T FieldFault) (fault : FieldFault) (P : FieldFault → Type 0) → IsErrAnd r (λ y. y ≡ fault) → P fault → IfErr r P
@@ -39,6 +44,27 @@ sized_leads most form next bytes piece rest fits spells at =
       small = omega arith;
     }))
     (run_leads (length piece) form next (piece ++ rest) piece rest (record { front = refl; whole = refl; spells = spells }))
+
+-- ---- bytes that are there and don't spell what they should
+
+pub run_refused : (size : ℕ) (form : Form) (next : Layout) (bytes piece rest : List ℕ) → RunAt size as_value bytes piece rest → (Spells form piece → ⊥) → Breaks (run size form next) bytes (length bytes)
+run_refused size form next bytes piece rest at none =
+    inl (refl, λ other behind so.
+        let same = same_run other piece behind rest (sym so.front ∙ at.front) (so.whole ∙ sym at.whole) in
+        none (subst (λ l. Spells form l) same.one so.spells))
+
+pub sized_refused : (most : ℕ) (form : Form) (next : Layout) (bytes piece rest : List ℕ) → most < 2 ^ 32 → SizedAt most bytes piece rest → (Spells form piece → ⊥) → Breaks (sized_layout most form next) bytes (length piece + length rest)
+sized_refused most form next bytes piece rest fits at none =
+    let low = at.short in
+    let first : NumberAt four 0 most bytes (length piece) (piece ++ rest) = record {
+      front = at.front ∙ append_assoc (to_be_bytes w32 (length piece)) piece rest;
+      above = omega arith;
+      below = low;
+      small = omega arith;
+    } in
+    let there : RunAt (length piece) as_value (piece ++ rest) piece rest = record { front = refl; whole = refl; spells = tt } in
+    subst (λ left. Breaks (sized_layout most form next) bytes left) (length-append piece rest)
+    (inr (length piece, piece ++ rest, first, run_refused (length piece) form next (piece ++ rest) piece rest there none))
 
 -- ---- keys
 
@@ -119,3 +145,25 @@ what_leads next bytes (whats.Remove cas) rest at =
     leads_on (what_layout next) bytes (cas_layout next) (to_be_bytes w64 cas ++ rest) next rest
     (byte_leads 1 2 (λ tag. if nat_eq tag 1 then doc_layout next else cas_layout next) bytes 2 (to_be_bytes w64 cas ++ rest) (record { front = at.front; above = omega arith; below = omega arith }))
     (cas_leads next (to_be_bytes w64 cas ++ rest) cas rest (record { allowed = at.allowed; front = refl }))
+
+-- ---- manifests
+
+pub manifest_there : (bytes : List ℕ) (m : Catalog) → IsUtf8 bytes → catalog_in bytes ≡ Some m → Spells as_manifest bytes
+manifest_there bytes m utf8 found = ap is_some (read_is bytes m utf8 found)
+
+pub manifest_none : (bytes : List ℕ) → (IsUtf8 bytes → catalog_in bytes ≡ None) → Spells as_manifest bytes → ⊥
+manifest_none bytes none = go (is_utf8 bytes) refl
+  where
+    go : (b : Bool) → is_utf8 bytes ≡ b → is_some (if b then catalog_in bytes else None) ≡ true → ⊥
+    go true e h = false≢true (ap is_some (sym (none (IsUtf8-from_is_utf8 bytes e))) ∙ h)
+    go false e h = false≢true h
+
+-- ---- what was appended, piece by piece
+
+pub doc_added : (doc : Doc) (old a b c d e now : List ℕ) → a ≡ old ++ to_be_bytes w64 doc.cas → b ≡ a ++ to_be_bytes w32 doc.flags → c ≡ b ++ to_be_bytes w32 doc.expiry → d ≡ c ++ from_bool doc.json ∷ [] → e ≡ d ++ sized doc.xattrs → now ≡ e ++ sized doc.value → now ≡ old ++ doc_bytes doc
+doc_added doc old a b c d e now p q r s t u =
+    u ∙ ap (λ l. l ++ sized doc.value) (t ∙ ap (λ l. l ++ sized doc.xattrs) (s ∙ ap (λ l. l ++ from_bool doc.json ∷ []) (r ∙ ap (λ l. l ++ to_be_bytes w32 doc.expiry) (q ∙ ap (λ l. l ++ to_be_bytes w32 doc.flags) p))))
+    ∙ six old (to_be_bytes w64 doc.cas) (to_be_bytes w32 doc.flags) (to_be_bytes w32 doc.expiry) (from_bool doc.json ∷ []) (sized doc.xattrs) (sized doc.value)
+  where
+    six : (o u v w x y z : List ℕ) → (((((o ++ u) ++ v) ++ w) ++ x) ++ y) ++ z ≡ o ++ ((u ++ (v ++ (w ++ x))) ++ (y ++ z))
+    six o u v w x y z = simp append_assoc

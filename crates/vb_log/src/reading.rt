@@ -1,8 +1,7 @@
-ghost use Rattle.std.specs.Prelude.{◌≡◌, ◌≤◌, ◌∷◌, [], IfOk, IfErr, OnOk, MatchResult, IsTrue, is_some};
-ghost use Rattle.manifest_rules.specs.Form.{manifest_in};
+ghost use Rattle.std.specs.Prelude.{◌≡◌, ◌≤◌, ◌↔◌, ◌∷◌, [], IfOk, IfErr, OnOk, MatchResult, IsTrue};
 ghost use Rattle.vb_log.specs.declared.entry.Entry.{Entry};
 ghost use Rattle.vb_log.specs.declared.reading.ContentFault.TheVariants as faults;
-ghost use Rattle.vb_log.specs.Layout.{end};
+ghost use Rattle.vb_log.specs.Layout.{end, Spells, as_manifest};
 ghost use Rattle.vb_log.specs.Spelling.{IsSpelled, key_layout, cas_layout, doc_layout};
 ghost use Rattle.vb_log.specs.Spelling.{prepare_layout, position_layout, manifest_layout};
 ghost use Rattle.vb_log.specs.Spelling.{parts_layout, entry_layout};
@@ -148,7 +147,7 @@ fn manifest_of(alloc: Global, parts: &[u8]) -> Result<Entry, FieldFault>
 
 /// Whether bytes are read as a manifest.
 fn is_manifest(alloc: Global, bytes: &[u8]) -> Result<bool, NoMemory>
-    ensures { IfOk result (λ b. b ≡ is_some (manifest_in bytes.now)) }
+    ensures { IfOk result (λ b. IsTrue b ↔ Spells as_manifest bytes.now) }
 {
     match read_manifest(alloc, bytes) {
         Ok(_) => Ok(true),
