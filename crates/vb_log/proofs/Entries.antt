@@ -13,11 +13,11 @@ use Rattle.vb_log.specs.declared.entry.Entry.{Entry}
 use Rattle.vb_log.specs.declared.entry.Entry.TheVariants as entries
 use Rattle.vb_log.specs.declared.limits.TheConstants.{GREATEST_CAS, GREATEST_LEVEL, GREATEST_POSITION}
 use Rattle.vb_log.specs.Keys.{IsAllowedKey, spelt_key, key_bytes}
-use Rattle.vb_log.specs.Layout.{four, eight, as_manifest, Layout, end, byte, Fits, Breaks}
-use Rattle.vb_log.specs.Spelling.{IsAllowedDoc, IsAllowedWhat, IsUnnumbered, IsAllowed, sized, doc_bytes, what_bytes, spelling, IsSpelled, key_layout, cas_layout, doc_layout, what_layout, position_layout, prepare_layout, manifest_layout, parts_layout, entry_layout}
+use Rattle.vb_log.specs.Layout.{four, eight, as_manifest, end, Fits, Breaks}
+use Rattle.vb_log.specs.Spelling.{IsAllowedDoc, IsAllowedWhat, IsUnnumbered, IsAllowed, sized, doc_bytes, what_bytes, spelling, IsSpelled, key_layout, cas_layout, doc_layout, what_layout, position_layout, prepare_layout, parts_layout, entry_layout}
 use Rattle.vb_log.specs.Faults.{BreaksAt}
 use Rattle.vb_log.specs.Sizes.{key_length, doc_length, what_length, entry_length}
-use Rattle.vb_log.proofs.Layouts.{Same, same_byte, same_number, same_run, no_fit, one_place, left_within, Leads, leads_on, byte_leads, number_leads}
+use Rattle.vb_log.proofs.Layouts.{Same, same_byte, same_number, same_run, no_fit, one_place, left_within, leads_on, byte_leads, number_leads}
 use Rattle.vb_log.proofs.Pieces.{sized_leads, key_leads, cas_leads, doc_leads, what_leads}
 use Rattle.vb_log.proofs.Spelt.{one_key}
 

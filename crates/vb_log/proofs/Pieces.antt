@@ -1,5 +1,5 @@
 -- From the layout of a part of an entry to what follows it.
-use Rattle.std.specs.Prelude.{◌≡◌, ℕ, ◌+◌, ◌-◌, ◌≤◌, ◌<◌, ◌^◌, nat_eq, Bool, true, false, List, [], ◌∷◌, ◌++◌, length, if◌then◌else◌, is_some, Option, Some, None, Result, Ok, Err, IfErr, IsErrAnd, refl}
+use Rattle.std.specs.Prelude.{◌≡◌, ℕ, ◌+◌, ◌-◌, ◌≤◌, ◌<◌, ◌^◌, nat_eq, Bool, true, false, List, [], ◌∷◌, ◌++◌, length, if◌then◌else◌, is_some, Some, None, Result, Ok, Err, IfErr, IsErrAnd, refl}
 use Rattle.std.specs.Int.{w32, w64, to_be_bytes, from_bool}
 use Rattle.std.proofs.Common.{inl, inr, sym, ap, ◌∙◌, subst, append_assoc, arith}
 use Rattle.std.proofs.lemmas.List.{length-append}
@@ -14,17 +14,16 @@ use Rattle.doc_model.specs.declared.limits.TheConstants.{VALUE_LIMIT, KEY_LIMIT,
 use Rattle.std.specs.Str.{IsUtf8, is_utf8}
 use Rattle.std.proofs.lemmas.Str.{IsUtf8-from_is_utf8}
 use Rattle.manifest_rules.specs.Catalog.{Catalog}
-use Rattle.manifest_rules.specs.Form.{catalog_in, manifest_in}
+use Rattle.manifest_rules.specs.Form.{catalog_in}
 use Rattle.manifest_rules.proofs.Outcomes.{read_is}
 use Rattle.vb_log.specs.declared.limits.TheConstants.{GREATEST_CAS, SECTION_LIMIT, SPELT_KEY_LIMIT}
 use Rattle.vb_log.specs.declared.documents.Head.{Head}
 use Rattle.vb_log.specs.declared.fields.FieldFault.{FieldFault}
-use Rattle.vb_log.specs.Keys.{name_limit, IsAllowedKey, spelt_key, key_bytes}
-use Rattle.vb_log.specs.Layout.{four, eight, Form, as_value, as_key, as_section, as_manifest, Spells, Layout, byte, number, run, ByteAt, NumberAt, RunAt, Breaks}
-use Rattle.vb_log.specs.Spelling.{IsAllowedDoc, sized, head_bytes, doc_bytes, what_bytes, sized_layout, key_layout, cas_layout, word_layout, head_layout, attributes_layout, value_layout, doc_layout, what_layout}
+use Rattle.vb_log.specs.Keys.{IsAllowedKey, spelt_key}
+use Rattle.vb_log.specs.Layout.{four, eight, Form, as_value, as_key, as_section, as_manifest, Spells, Layout, byte, run, NumberAt, RunAt, Breaks}
+use Rattle.vb_log.specs.Spelling.{sized, head_bytes, doc_bytes, sized_layout, key_layout, cas_layout, word_layout, head_layout, attributes_layout, value_layout, doc_layout, what_layout}
 use Rattle.vb_log.specs.Reading.{SizedAt, AttributesAt, KeyAt, CasAt, HeadAt, DocAt, WhatAt}
-use Rattle.vb_log.specs.Faults.{IsBroken}
-use Rattle.vb_log.proofs.Layouts.{same_run, Leads, leads_on, byte_leads, number_leads, run_leads, broken_behind}
+use Rattle.vb_log.proofs.Layouts.{same_run, Leads, leads_on, byte_leads, number_leads, run_leads}
 
 -- what a `?` hands on
 pub handed : {T : Type 0} (r : Result T FieldFault) (fault : FieldFault) (P : FieldFault → Type 0) → IsErrAnd r (λ y. y ≡ fault) → P fault → IfErr r P
@@ -49,9 +48,12 @@ sized_leads most form next bytes piece rest fits spells at =
 
 pub run_refused : (size : ℕ) (form : Form) (next : Layout) (bytes piece rest : List ℕ) → RunAt size as_value bytes piece rest → (Spells form piece → ⊥) → Breaks (run size form next) bytes (length bytes)
 run_refused size form next bytes piece rest at none =
-    inl (refl, λ other behind so.
-        let same = same_run other piece behind rest (sym so.front ∙ at.front) (so.whole ∙ sym at.whole) in
-        none (subst (λ l. Spells form l) same.one so.spells))
+    inl (
+      refl,
+      λ other behind so.
+          let same = same_run other piece behind rest (sym so.front ∙ at.front) (so.whole ∙ sym at.whole) in
+          none (subst (λ l. Spells form l) same.one so.spells),
+    )
 
 pub sized_refused : (most : ℕ) (form : Form) (next : Layout) (bytes piece rest : List ℕ) → most < 2 ^ 32 → SizedAt most bytes piece rest → (Spells form piece → ⊥) → Breaks (sized_layout most form next) bytes (length piece + length rest)
 sized_refused most form next bytes piece rest fits at none =

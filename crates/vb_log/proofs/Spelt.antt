@@ -1,5 +1,5 @@
 -- Keys are read as they are spelt.
-use Rattle.std.specs.Prelude.{◌≡◌, ℕ, ◌≤◌, List, ◌++◌, length, Option, Some, None, refl}
+use Rattle.std.specs.Prelude.{◌≡◌, ℕ, ◌≤◌, List, ◌++◌, length, Some}
 use Rattle.std.proofs.Common.{sym, ap, ◌∙◌, subst}
 use Rattle.leb_collections.specs.Leb128.{AreBytes}
 use Rattle.leb_collections.specs.Functions.{id_at, id_bytes}

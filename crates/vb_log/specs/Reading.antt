@@ -1,10 +1,9 @@
 -- The parts of an entry at the front of bytes.
-use Rattle.std.specs.Prelude.{◌≡◌, ℕ, ◌≤◌, ◌<◌, ◌^◌, List, ◌++◌, length, IsTrue}
-use Rattle.std.specs.Int.{w32, w64, to_be_bytes}
+use Rattle.std.specs.Prelude.{◌≡◌, ℕ, ◌≤◌, ◌<◌, ◌^◌, List, ◌++◌, length}
+use Rattle.std.specs.Int.{w64, to_be_bytes}
 use Rattle.doc_model.specs.declared.key.DocKey.{DocKey}
 use Rattle.doc_model.specs.declared.document.Doc.{Doc}
 use Rattle.doc_model.specs.declared.document.What.{What}
-use Rattle.vb_log.specs.declared.entry.Entry.{Entry}
 use Rattle.vb_log.specs.declared.documents.Head.{Head}
 use Rattle.vb_log.specs.declared.limits.TheConstants.{GREATEST_CAS, GREATEST_POSITION, SECTION_LIMIT}
 use Rattle.vb_log.specs.Keys.{IsAllowedKey, key_bytes}

@@ -28,7 +28,8 @@ pub enum ContentFault {
     NoMemory,
 }
 
-/// Reads the entry whose bytes these are, all of them.
+/// Reads the entry whose bytes these are, all of them. `Bad` comes exactly where they are no entry's,
+/// with the place where they break the layout.
 pub fn read_entry(alloc: Global, bytes: &[u8]) -> Result<Entry, ContentFault>
     ensures found { IfOk result (λ e. IsSpelled e bytes.now) }
     ensures only { (e : Entry) → IsSpelled e bytes.now

@@ -1,4 +1,5 @@
-ghost use Rattle.std.specs.Prelude.{◌≡◌, ◌++◌, OnOk, OnErr};
+ghost use Rattle.std.specs.Prelude.{◌≡◌, ◌++◌, ◌∷◌, OnOk, OnErr};
+ghost use Rattle.std.specs.Int.{w64, to_be_bytes};
 ghost use Rattle.vb_log.specs.Spelling.{IsAllowed, spelling};
 
 use crate::documents::{add_doc, add_sized, add_what};
@@ -7,7 +8,8 @@ use crate::keys::add_key;
 use crate::kinds::{ABORT, COMMIT, DELETION, MANIFEST, MUTATION, PREPARE};
 use kv_edge::NoMemory;
 
-/// Appends the bytes of an entry. At `Err` the bytes are as before.
+/// Appends the bytes of an entry, which has to be one that the layout allows. `NoMemory` comes where
+/// memory is refused, and then nothing is appended.
 pub fn entry_into(entry: &Entry, out: &mut Vec<u8>) -> Result<(), NoMemory>
     requires { IsAllowed entry.now }
     ensures ok { OnOk result (out.new.items ≡ out.old.items ++ spelling entry.now) }
@@ -46,13 +48,11 @@ fn add_entry(out: &mut Vec<u8>, entry: &Entry) -> Result<(), NoMemory>
             Ok(())
         }
         Entry::Commit { of } => {
-            out.push(COMMIT)?;
-            out.extend_from_slice(&of.to_be_bytes())?;
+            add_position(out, COMMIT, *of)?;
             Ok(())
         }
         Entry::Abort { of } => {
-            out.push(ABORT)?;
-            out.extend_from_slice(&of.to_be_bytes())?;
+            add_position(out, ABORT, *of)?;
             Ok(())
         }
         Entry::Manifest { text } => {
@@ -61,4 +61,13 @@ fn add_entry(out: &mut Vec<u8>, entry: &Entry) -> Result<(), NoMemory>
             Ok(())
         }
     }
+}
+
+/// Appends what says which entry it is, and the position that it names.
+fn add_position(out: &mut Vec<u8>, kind: u8, of: u64) -> Result<(), NoMemory>
+    ensures { OnOk result (out.new.items ≡ out.old.items ++ kind ∷ to_be_bytes w64 of) }
+{
+    out.push(kind)?;
+    out.extend_from_slice(&of.to_be_bytes())?;
+    Ok(())
 }

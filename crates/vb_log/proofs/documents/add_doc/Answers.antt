@@ -1,4 +1,4 @@
-use Rattle.std.proofs.Common.{◌++◌, ◌∷◌, [], sym, ap, ◌∙◌}
+use Rattle.std.proofs.Common.{◌++◌, ◌∷◌, [], ap, ◌∙◌}
 use Rattle.vb_log.specs.Spelling.{sized}
 use Rattle.vb_log.proofs.Pieces.{doc_added}
 use Rattle.vb_log.proofs.documents.add_doc.Goals as goal

@@ -1,4 +1,3 @@
-use Rattle.vb_log.specs.Layout.{Layout}
 use Rattle.vb_log.specs.Spelling.{cas_layout}
 use Rattle.vb_log.specs.Faults.{IsBroken}
 use Rattle.vb_log.proofs.Pieces.{handed}

@@ -18,8 +18,8 @@ pub returns-in_err-spelt-clause-broken : goal.returns-in_err-spelt-clause-broken
 returns-in_err-spelt-clause-broken c =
     λ next. handed c.from_residual-in_err-spelt.result c.in_err-spelt.field-0.0 (IsBroken (key_layout next) c.args.bytes.now) c.from_residual-in_err-spelt.ensures.1
     (broken_behind (key_layout next) c.args.bytes.now (run c.in_ok-size.size as_key next) c.in_ok-size.rest.now c.in_err-spelt.field-0.0
-        (byte_leads 0 SPELT_KEY_LIMIT (λ size. run size as_key next) c.args.bytes.now c.in_ok-size.size c.in_ok-size.rest.now c.in_ok-size.ensures.found)
-        (c.in_err-spelt.ensures.broken as_key next))
+    (byte_leads 0 SPELT_KEY_LIMIT (λ size. run size as_key next) c.args.bytes.now c.in_ok-size.size c.in_ok-size.rest.now c.in_ok-size.ensures.found)
+    (c.in_err-spelt.ensures.broken as_key next))
 
 pub returns-in-None-clause-broken : goal.returns-in-None-clause-broken
 returns-in-None-clause-broken c =

@@ -13,5 +13,5 @@ pub returns-in_err-entry-clause-broken : goal.returns-in_err-entry-clause-broken
 returns-in_err-entry-clause-broken c =
     handed c.from_residual-in_err-entry.result c.in_err-entry.field-0.0 (IsBroken entry_layout c.args.bytes.now) c.from_residual-in_err-entry.ensures.1
     (broken_behind entry_layout c.args.bytes.now (parts_layout c.in_ok-kind.kind) c.in_ok-kind.parts.now c.in_err-entry.field-0.0
-        (byte_leads 1 6 parts_layout c.args.bytes.now c.in_ok-kind.kind c.in_ok-kind.parts.now c.in_ok-kind.ensures.found)
-        (c.in_err-entry.ensures.broken))
+    (byte_leads 1 6 parts_layout c.args.bytes.now c.in_ok-kind.kind c.in_ok-kind.parts.now c.in_ok-kind.ensures.found)
+    (c.in_err-entry.ensures.broken))

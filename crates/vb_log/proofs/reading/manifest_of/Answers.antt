@@ -4,8 +4,7 @@ use Rattle.doc_model.specs.declared.limits.TheConstants.{MANIFEST_LIMIT}
 use Rattle.vb_log.specs.Layout.{as_manifest, end}
 use Rattle.vb_log.specs.Spelling.{manifest_layout}
 use Rattle.vb_log.specs.Faults.{IsBroken}
-use Rattle.vb_log.proofs.Layouts.{broken_behind}
-use Rattle.vb_log.proofs.Pieces.{handed, sized_refused, sized_leads}
+use Rattle.vb_log.proofs.Pieces.{handed, sized_refused}
 use Rattle.vb_log.proofs.reading.manifest_of.Goals as goal
 
 pub returns-in_err-piece-clause-broken : goal.returns-in_err-piece-clause-broken

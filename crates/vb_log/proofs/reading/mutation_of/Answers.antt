@@ -14,13 +14,13 @@ pub returns-in_err-doc-clause-broken : goal.returns-in_err-doc-clause-broken
 returns-in_err-doc-clause-broken c =
     handed c.from_residual-in_err-doc.result c.in_err-doc.field-0.0 (IsBroken (key_layout (doc_layout end)) c.args.parts.now) c.from_residual-in_err-doc.ensures.1
     (broken_behind (key_layout (doc_layout end)) c.args.parts.now (doc_layout end) c.in_ok-key.behind_key.now c.in_err-doc.field-0.0
-        (key_leads (doc_layout end) c.args.parts.now c.in_ok-key.key c.in_ok-key.behind_key.now c.in_ok-key.ensures.found)
-        (c.in_err-doc.ensures.broken end))
+    (key_leads (doc_layout end) c.args.parts.now c.in_ok-key.key c.in_ok-key.behind_key.now c.in_ok-key.ensures.found)
+    (c.in_err-doc.ensures.broken end))
 
 pub returns-in_err-ended-clause-broken : goal.returns-in_err-ended-clause-broken
 returns-in_err-ended-clause-broken c =
     handed c.from_residual-in_err-ended.result c.in_err-ended.field-0.0 (IsBroken (key_layout (doc_layout end)) c.args.parts.now) c.from_residual-in_err-ended.ensures.1
     (broken_behind (key_layout (doc_layout end)) c.args.parts.now end c.in_ok-doc.rest.now c.in_err-ended.field-0.0
-        (leads_on (key_layout (doc_layout end)) c.args.parts.now (doc_layout end) c.in_ok-key.behind_key.now end c.in_ok-doc.rest.now (key_leads (doc_layout end) c.args.parts.now c.in_ok-key.key c.in_ok-key.behind_key.now c.in_ok-key.ensures.found)
-        (doc_leads end c.in_ok-key.behind_key.now c.in_ok-doc.doc c.in_ok-doc.rest.now c.in_ok-doc.ensures.found))
-        (c.in_err-ended.ensures.broken))
+    (leads_on (key_layout (doc_layout end)) c.args.parts.now (doc_layout end) c.in_ok-key.behind_key.now end c.in_ok-doc.rest.now (key_leads (doc_layout end) c.args.parts.now c.in_ok-key.key c.in_ok-key.behind_key.now c.in_ok-key.ensures.found)
+    (doc_leads end c.in_ok-key.behind_key.now c.in_ok-doc.doc c.in_ok-doc.rest.now c.in_ok-doc.ensures.found))
+    (c.in_err-ended.ensures.broken))

@@ -15,5 +15,5 @@ pub returns-in_err-ended-clause-broken : goal.returns-in_err-ended-clause-broken
 returns-in_err-ended-clause-broken c =
     handed c.from_residual-in_err-ended.result c.in_err-ended.field-0.0 (IsBroken position_layout c.args.bytes.now) c.from_residual-in_err-ended.ensures.1
     (broken_behind position_layout c.args.bytes.now end c.in_ok-of.rest.now c.in_err-ended.field-0.0
-        (number_leads eight 1 GREATEST_POSITION (λ of. end) c.args.bytes.now c.in_ok-of.of c.in_ok-of.rest.now c.in_ok-of.ensures.found)
-        (c.in_err-ended.ensures.broken))
+    (number_leads eight 1 GREATEST_POSITION (λ of. end) c.args.bytes.now c.in_ok-of.of c.in_ok-of.rest.now c.in_ok-of.ensures.found)
+    (c.in_err-ended.ensures.broken))

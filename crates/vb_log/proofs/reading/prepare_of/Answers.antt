@@ -15,22 +15,22 @@ pub returns-in_err-key-clause-broken : goal.returns-in_err-key-clause-broken
 returns-in_err-key-clause-broken c =
     handed c.from_residual-in_err-key.result c.in_err-key.field-0.0 (IsBroken prepare_layout c.args.parts.now) c.from_residual-in_err-key.ensures.1
     (broken_behind prepare_layout c.args.parts.now (key_layout (what_layout end)) c.in_ok-level.behind_level.now c.in_err-key.field-0.0
-        (byte_leads 1 GREATEST_LEVEL (λ level. (key_layout (what_layout end))) c.args.parts.now c.in_ok-level.level c.in_ok-level.behind_level.now c.in_ok-level.ensures.found)
-        (c.in_err-key.ensures.broken (what_layout end)))
+    (byte_leads 1 GREATEST_LEVEL (λ level. (key_layout (what_layout end))) c.args.parts.now c.in_ok-level.level c.in_ok-level.behind_level.now c.in_ok-level.ensures.found)
+    (c.in_err-key.ensures.broken (what_layout end)))
 
 pub returns-in_err-what-clause-broken : goal.returns-in_err-what-clause-broken
 returns-in_err-what-clause-broken c =
     handed c.from_residual-in_err-what.result c.in_err-what.field-0.0 (IsBroken prepare_layout c.args.parts.now) c.from_residual-in_err-what.ensures.1
     (broken_behind prepare_layout c.args.parts.now (what_layout end) c.in_ok-key.behind_key.now c.in_err-what.field-0.0
-        (leads_on prepare_layout c.args.parts.now (key_layout (what_layout end)) c.in_ok-level.behind_level.now (what_layout end) c.in_ok-key.behind_key.now (byte_leads 1 GREATEST_LEVEL (λ level. (key_layout (what_layout end))) c.args.parts.now c.in_ok-level.level c.in_ok-level.behind_level.now c.in_ok-level.ensures.found)
-        (key_leads (what_layout end) c.in_ok-level.behind_level.now c.in_ok-key.key c.in_ok-key.behind_key.now c.in_ok-key.ensures.found))
-        (c.in_err-what.ensures.broken end))
+    (leads_on prepare_layout c.args.parts.now (key_layout (what_layout end)) c.in_ok-level.behind_level.now (what_layout end) c.in_ok-key.behind_key.now (byte_leads 1 GREATEST_LEVEL (λ level. (key_layout (what_layout end))) c.args.parts.now c.in_ok-level.level c.in_ok-level.behind_level.now c.in_ok-level.ensures.found)
+    (key_leads (what_layout end) c.in_ok-level.behind_level.now c.in_ok-key.key c.in_ok-key.behind_key.now c.in_ok-key.ensures.found))
+    (c.in_err-what.ensures.broken end))
 
 pub returns-in_err-ended-clause-broken : goal.returns-in_err-ended-clause-broken
 returns-in_err-ended-clause-broken c =
     handed c.from_residual-in_err-ended.result c.in_err-ended.field-0.0 (IsBroken prepare_layout c.args.parts.now) c.from_residual-in_err-ended.ensures.1
     (broken_behind prepare_layout c.args.parts.now end c.in_ok-what.rest.now c.in_err-ended.field-0.0
-        (leads_on prepare_layout c.args.parts.now (what_layout end) c.in_ok-key.behind_key.now end c.in_ok-what.rest.now (leads_on prepare_layout c.args.parts.now (key_layout (what_layout end)) c.in_ok-level.behind_level.now (what_layout end) c.in_ok-key.behind_key.now (byte_leads 1 GREATEST_LEVEL (λ level. (key_layout (what_layout end))) c.args.parts.now c.in_ok-level.level c.in_ok-level.behind_level.now c.in_ok-level.ensures.found)
-        (key_leads (what_layout end) c.in_ok-level.behind_level.now c.in_ok-key.key c.in_ok-key.behind_key.now c.in_ok-key.ensures.found))
-        (what_leads end c.in_ok-key.behind_key.now c.in_ok-what.what c.in_ok-what.rest.now c.in_ok-what.ensures.found))
-        (c.in_err-ended.ensures.broken))
+    (leads_on prepare_layout c.args.parts.now (what_layout end) c.in_ok-key.behind_key.now end c.in_ok-what.rest.now (leads_on prepare_layout c.args.parts.now (key_layout (what_layout end)) c.in_ok-level.behind_level.now (what_layout end) c.in_ok-key.behind_key.now (byte_leads 1 GREATEST_LEVEL (λ level. (key_layout (what_layout end))) c.args.parts.now c.in_ok-level.level c.in_ok-level.behind_level.now c.in_ok-level.ensures.found)
+    (key_leads (what_layout end) c.in_ok-level.behind_level.now c.in_ok-key.key c.in_ok-key.behind_key.now c.in_ok-key.ensures.found))
+    (what_leads end c.in_ok-key.behind_key.now c.in_ok-what.what c.in_ok-what.rest.now c.in_ok-what.ensures.found))
+    (c.in_err-ended.ensures.broken))
