@@ -3,3 +3,8 @@ pub mod Logs
 pub mod Parts
 pub mod Sizes
 pub mod Laws
+pub mod Keys
+pub mod Layout
+pub mod Spelling
+pub mod Faults
+pub mod Reading

@@ -1,6 +1,6 @@
-//! Laws of logs. Each function does nothing; its contract is the law.
+//! Laws of logs and of the bytes of entries. Each function does nothing; its contract is the law.
 
-ghost use Rattle.std.specs.Prelude.{◌≡◌, List, length};
+ghost use Rattle.std.specs.Prelude.{◌≡◌, ℕ, List, length};
 ghost use Rattle.vb_log.specs.declared.entry.Entry.{Entry};
 ghost use Rattle.vb_log.specs.declared.entry.Entry.TheVariants as entries;
 ghost use Rattle.vb_log.specs.Content.{content_of};
@@ -10,6 +10,10 @@ ghost use Rattle.vb_log.specs.Laws.{WaitsAsPrepared, PrepareShowsNothing, Prepar
 ghost use Rattle.vb_log.specs.Laws.{CommitShows, CommitLeavesOthers, CommitOfDropped, EndsOne};
 ghost use Rattle.vb_log.specs.Laws.{AbortShowsNothing, DroppedHasNothing, ManifestLeavesOthers};
 ghost use Rattle.vb_log.specs.Laws.{MutationCounts, DeletionCounts, PrepareCounts};
+ghost use Rattle.vb_log.specs.Layout.{Fits};
+ghost use Rattle.vb_log.specs.Spelling.{IsAllowed, IsSpelled, spelling, entry_layout};
+ghost use Rattle.vb_log.specs.Sizes.{entry_length};
+ghost use Rattle.vb_log.specs.Faults.{BreaksAt};
 
 /// What of a log's content lies behind a position, joined to what the log comes to up to there, is
 /// what the whole log comes to.
@@ -64,4 +68,27 @@ pub fn changes_count_once()
     ensures mutation { MutationCounts }
     ensures deletion { DeletionCounts }
     ensures prepare { PrepareCounts }
+{}
+
+/// Bytes are those of one entry at most, an entry that the layout allows has its bytes alone, and
+/// they fit the layout.
+pub fn entry_has_one_spelling()
+    ensures one_entry { (first second : Entry) (bytes : List ℕ)
+        → IsSpelled first bytes → IsSpelled second bytes → first ≡ second }
+    ensures one_spelling { (e : Entry) (first second : List ℕ)
+        → IsSpelled e first → IsSpelled e second → first ≡ second }
+    ensures fits { (e : Entry) → IsAllowed e → Fits entry_layout (spelling e) }
+{}
+
+/// An entry's bytes are as many as its parts say.
+pub fn spelling_has_its_length()
+    ensures { (e : Entry) → length (spelling e) ≡ entry_length e }
+{}
+
+/// Bytes break the layout of an entry at one place at most, and then they are no entry's.
+pub fn one_broken_place()
+    ensures place { (bytes : List ℕ) (first second : ℕ)
+        → BreaksAt bytes first → BreaksAt bytes second → first ≡ second }
+    ensures none { (bytes : List ℕ) (place : ℕ) (e : Entry)
+        → BreaksAt bytes place → IsSpelled e bytes → ⊥ }
 {}

@@ -47,19 +47,90 @@
 //!
 //! The length is 5. Behind position 3 lie the item of `a` and the greatest CAS 4; joined to the
 //! content of the first three entries they are the content of the whole.
+//!
+//! # The bytes of an entry
+//!
+//! An entry's first byte says which it is; its parts follow, and nothing behind them. Numbers have
+//! the highest byte first.
+//!
+//! | First byte | Entry | Parts |
+//! |---|---|---|
+//! | 01 | Mutation | key, document |
+//! | 02 | Deletion | key, CAS |
+//! | 03 | Prepare | level, key, change |
+//! | 04 | Commit | position |
+//! | 05 | Abort | position |
+//! | 06 | Manifest | length, text |
+//!
+//! | Part | Fields, with their bytes | Bounds |
+//! |---|---|---|
+//! | key | length 1, id and name | the length is at most 251 and counts both |
+//! | | | the id is in shortest LEB128 |
+//! | | | the name has 1 to 250 bytes in collection 0, 1 to 246 elsewhere |
+//! | CAS | 8 | below 2^63 |
+//! | document | CAS 8, flags 4, expiry 4 | the CAS as above |
+//! | | JSON 1 | 01 where the value is JSON text, else 00 |
+//! | | length 4, attributes | at most 1,048,576 bytes: none, or a section of `xattr_body` |
+//! | | length 4, value | at most 20,971,520 bytes |
+//! | change | 01 and a document, or 02 and a CAS | |
+//! | level | 1 | 1 to 3 |
+//! | position | 8 | 1 to 2^42 - 1 |
+//! | text | length 4, text | at most 1,048,576 bytes, in the form of a manifest |
+//!
+//! A document has no sequence number here: it gets its own by the entry that shows it, and the one
+//! in an entry is 0.
+//!
+//! Worked example, a Prepare at level 1 of the value `x` with the CAS 4 for the key `b`:
+//!
+//! ```text
+//! 03                                        a Prepare
+//! 01                                        level 1
+//! 02 00 62                                  2 bytes: collection 0, `b`
+//! 01                                        a document
+//! 0000000000000004 00000000 00000000 00     CAS 4, no flags, no expiry, no JSON
+//! 00000000                                  no attributes
+//! 00000001 78                               one byte: `x`
+//! ```
+//!
+//! # Where bytes break the layout
+//!
+//! `Bad` has the offset of the first field that isn't there, passes its bounds or hasn't its form;
+//! or that of the first byte behind the last field. A length that passes its bound breaks the
+//! layout at the length; bytes that are fewer than the length says, or that don't spell what they
+//! should, where they begin: a key's id and name are one field, and so is a section of attributes.
+//!
+//! | Bytes | What is told |
+//! |---|---|
+//! | `07` | `Bad(0)`: no entry begins so |
+//! | `02 fc` | `Bad(1)`: a key of 252 bytes |
+//! | `02 02 80 61` | `Bad(2)`: an id of two bytes, and no name |
+//! | `02 02 00 61 8000000000000000` | `Bad(4)`: a CAS of 2^63 |
+//! | `04 0000000000000001 00` | `Bad(9)`: a byte behind the position |
 #![tactic(auto)]
 
+mod documents;
 mod entry;
+mod fields;
+mod keys;
+mod kinds;
 mod laws;
 mod limits;
+mod reading;
+mod writing;
 
 pub use entry::{Entry, Pending};
 pub use laws::{
     abort_only_ends_its_prepare, changes_count_once, commit_shows_what_was_prepared,
-    folds_follow_their_entries, length_counts_entries, manifest_takes_what_it_drops,
-    parts_join_back, prepare_shows_nothing,
+    entry_has_one_spelling, folds_follow_their_entries, length_counts_entries,
+    manifest_takes_what_it_drops, one_broken_place, parts_join_back, prepare_shows_nothing,
+    spelling_has_its_length,
 };
 pub use limits::{
     CONTENT_LIMIT, GREATEST_CAS, GREATEST_LEVEL, GREATEST_POSITION, ITEM_OVERHEAD, LOG_LIMIT,
     SECTION_LIMIT, SPELT_KEY_LIMIT, SUM_LIMIT, log_numbers,
 };
+pub use reading::{ContentFault, read_entry};
+pub use writing::entry_into;
+
+#[cfg(test)]
+mod tests;

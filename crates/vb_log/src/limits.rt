@@ -25,7 +25,7 @@ pub const GREATEST_POSITION: u64 = (1 << 42) - 1;
 pub const GREATEST_LEVEL: u8 = 3;
 
 /// How many bytes a key's spelling has at most, its collection's id among them.
-pub const SPELT_KEY_LIMIT: usize = 251;
+pub const SPELT_KEY_LIMIT: u8 = 251;
 
 /// How many bytes a document's extended attributes have at most.
 pub const SECTION_LIMIT: usize = 1_048_576;

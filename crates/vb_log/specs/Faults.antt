@@ -1,0 +1,25 @@
+-- Where bytes break the layout of an entry.
+use Rattle.std.specs.Prelude.{◌≡◌, ℕ, ◌+◌, List, length}
+use Rattle.vb_log.specs.declared.entry.Entry.{Entry}
+use Rattle.vb_log.specs.declared.reading.ContentFault.{ContentFault}
+use Rattle.vb_log.specs.declared.reading.ContentFault.TheVariants as fault
+use Rattle.vb_log.specs.declared.fields.FieldFault.{FieldFault}
+use Rattle.vb_log.specs.declared.fields.FieldFault.TheVariants as field_fault
+use Rattle.vb_log.specs.Layout.{Layout, Breaks}
+use Rattle.vb_log.specs.Spelling.{IsSpelled, entry_layout}
+
+-- the first field of an entry that breaks the layout begins behind so many bytes
+pub record BreaksAt (bytes : List ℕ) (place : ℕ) : Type 0 where
+  pub left : ℕ
+  pub parts : place + left ≡ length bytes
+  pub breaks : Breaks entry_layout bytes left
+
+-- why no entry was read: the bytes are none's, and break the layout at the place
+abbrev pub IsNoEntry : List ℕ → ContentFault → Type 0
+IsNoEntry bytes (fault.Bad place) = BreaksAt bytes place × ((e : Entry) → IsSpelled e bytes → ⊥)
+IsNoEntry bytes fault.NoMemory = Unit {0}
+
+-- why fields were not read: the bytes break the layout
+abbrev pub IsBroken : Layout → List ℕ → FieldFault → Type 0
+IsBroken layout bytes (field_fault.Broken left) = Breaks layout bytes left
+IsBroken layout bytes field_fault.NoMemory = Unit {0}
