@@ -9,7 +9,7 @@ use Rattle.json_model.specs.declared.asked.Edit.TheVariants as edits
 use Rattle.kv_request.specs.declared.opcode.Command.{Command}
 use Rattle.kv_request.specs.declared.opcode.Command.TheVariants as commands
 
--- each opcode that is served, but for the quiet ones and those on parts of documents, with what it asks for
+-- each opcode that is served, but for the quiet ones and those on one part of a document, with what it asks for
 abbrev pub opcodes : List (ℕ × Command)
 opcodes =
     (0x00, commands.Get)
@@ -32,6 +32,8 @@ opcodes =
     ∷ (0xba, commands.GetManifest)
     ∷ (0xbb, commands.CollectionId)
     ∷ (0xbc, commands.ScopeId)
+    ∷ (0xd0, commands.MultiLook)
+    ∷ (0xd1, commands.MultiEdit)
     ∷ []
 
 -- each quiet opcode, with what it asks for
@@ -115,6 +117,8 @@ form_of commands.CollectionId = record { extras = 0 ∷ []; key = May; value = M
 form_of commands.ScopeId = record { extras = 0 ∷ []; key = May; value = May }
 form_of (commands.Look lookup) = record { extras = 3 ∷ 4 ∷ []; key = Must; value = May }
 form_of (commands.Edit edit) = record { extras = 3 ∷ 4 ∷ 7 ∷ 8 ∷ []; key = Must; value = May }
+form_of commands.MultiLook = record { extras = 0 ∷ 1 ∷ []; key = Must; value = May }
+form_of commands.MultiEdit = record { extras = 0 ∷ 1 ∷ 4 ∷ 5 ∷ []; key = Must; value = May }
 
 -- whether the key is a document's
 abbrev pub names_document : Command → Bool
@@ -144,6 +148,7 @@ takes_level commands.Decrement = true
 takes_level commands.Append = true
 takes_level commands.Prepend = true
 takes_level (commands.Edit edit) = true
+takes_level commands.MultiEdit = true
 takes_level command = false
 
 -- whether a value may come behind the path of a command on a part of a document

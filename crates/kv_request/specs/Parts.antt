@@ -35,9 +35,14 @@ spec_of frame = record { opcode = frame.opcode; flags = path_flags frame; path =
 abbrev pub has_bit : ℕ → ℕ → Bool
 has_bit flags bit = not (nat_eq (bit_and flags bit) 0)
 
--- whether the document's flags are ones that a command takes: a look-up none, an edit one of two or none
+-- whether a path leads into the document's attributes, and not into its value
+abbrev pub is_attribute : Spec → Bool
+is_attribute spec = has_bit spec.flags IS_XATTR
+
+-- whether the document's flags are ones that a command takes: look-ups none, edits one of two or none
 abbrev pub are_doc_flags : Command → ℕ → Bool
 are_doc_flags (commands.Look lookup) flags = nat_eq flags 0
+are_doc_flags commands.MultiLook flags = nat_eq flags 0
 are_doc_flags command flags = nat_eq flags 0 || nat_eq flags MAKES_DOCUMENT || nat_eq flags ADDS_DOCUMENT
 
 -- whether each bit of a path's flags is known
@@ -45,18 +50,17 @@ abbrev pub are_known : ℕ → Bool
 are_known flags = nat_eq (bit_and flags 0xea) 0
 
 -- whether a path of no bytes may stand, where the path is one of the value
-abbrev pub may_be_empty : Command → ℕ → Bool
-may_be_empty command flags = takes_whole command && not (has_bit flags IS_XATTR)
+abbrev pub may_be_empty : Command → Spec → Bool
+may_be_empty command spec = takes_whole command && not (is_attribute spec)
 
 -- the checks of a path and its flags in their order, each with the status of a request that fails it
 abbrev pub spec_checks : Command → Spec → List (Bool × Status)
 spec_checks command spec =
     (are_known spec.flags, status.EINVAL)
-    ∷ (has_bit spec.flags IS_XATTR || not (has_bit spec.flags EXPANDS_MACROS), status.XATTR_INVALID_FLAG_COMBO)
+    ∷ (is_attribute spec || not (has_bit spec.flags EXPANDS_MACROS), status.XATTR_INVALID_FLAG_COMBO)
     ∷ (not (has_bit spec.flags EXPANDS_MACROS), status.XATTR_UNKNOWN_MACRO)
     ∷ (may_make_parents command || not (has_bit spec.flags MAKES_PARENTS), status.EINVAL)
-    ∷ (nat_le 1 (length spec.path) || may_be_empty command spec.flags, status.EINVAL)
-    ∷ (not (has_bit spec.flags IS_XATTR), status.NOT_SUPPORTED)
+    ∷ (nat_le 1 (length spec.path) || may_be_empty command spec, status.EINVAL)
     ∷ []
 
 -- the checks of a request on a part of a document in their order
@@ -66,9 +70,3 @@ part_checks frame command =
     ∷ (nat_le (path_length frame) (length frame.value), status.EINVAL)
     ∷ (takes_value command || nat_eq (length (spec_of frame).value) 0, status.EINVAL)
     ∷ spec_checks command (spec_of frame)
-
--- the checks of what a command brings beside key and CAS: those on parts of documents have some
-abbrev pub body_checks : Frame → Command → List (Bool × Status)
-body_checks frame (commands.Look lookup) = part_checks frame (commands.Look lookup)
-body_checks frame (commands.Edit edit) = part_checks frame (commands.Edit edit)
-body_checks frame command = []

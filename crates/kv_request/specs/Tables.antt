@@ -12,18 +12,21 @@ use Rattle.doc_model.specs.declared.key.DocKey.{DocKey}
 use Rattle.doc_model.specs.declared.status.Status.{Status}
 use Rattle.doc_model.specs.declared.status.TheConstants.Status as status
 use Rattle.kv_request.specs.declared.reading.TheConstants.{KEY_LIMIT, OTHER_KEY_LIMIT, VALUE_LIMIT, MANIFEST_LIMIT, DURABILITY, USUAL_TIMEOUT}
+use Rattle.kv_request.specs.declared.multi.TheConstants.{MOST_SPECS}
 use Rattle.kv_request.specs.declared.opcode.Command.{Command}
 use Rattle.kv_request.specs.declared.opcode.Command.TheVariants as commands
 use Rattle.kv_request.specs.declared.request.Features.{Features}
 use Rattle.kv_request.specs.declared.request.Durability.{Durability}
 use Rattle.kv_request.specs.declared.request.Request.{Request}
+use Rattle.kv_request.specs.declared.request.Spec.{Spec}
 use Rattle.kv_request.specs.declared.request.Body.{Body}
 use Rattle.kv_request.specs.declared.request.Body.TheVariants as bodies
 use Rattle.kv_request.specs.declared.request.Mode.{Mode}
 use Rattle.kv_request.specs.declared.request.Mode.TheVariants as modes
 use Rattle.kv_request.specs.declared.reply.Reply.{Reply}
 use Rattle.kv_request.specs.Opcodes.{command_of, is_of_streams, is_unsent, Presence, Must, MustNot, May, form_of, names_document, takes_level}
-use Rattle.kv_request.specs.Parts.{spec_of, given_expiry, doc_flags, body_checks}
+use Rattle.kv_request.specs.Parts.{spec_of, given_expiry, doc_flags, part_checks}
+use Rattle.kv_request.specs.Multi.{multi_expiry, multi_flags, specs_bytes, specs_of, multi_checks}
 
 -- whether a part of this many bytes is there as it has to be
 abbrev pub is_present : Presence → ℕ → Bool
@@ -127,6 +130,14 @@ abbrev pub is_cas_taken : Command → ℕ → Bool
 is_cas_taken commands.Add cas = nat_eq cas 0
 is_cas_taken command cas = true
 
+-- the checks of what a command brings beside key and CAS: those on parts of documents have some
+abbrev pub body_checks : Frame → Command → List (Bool × Status)
+body_checks frame (commands.Look lookup) = part_checks frame (commands.Look lookup)
+body_checks frame (commands.Edit edit) = part_checks frame (commands.Edit edit)
+body_checks frame commands.MultiLook = multi_checks frame commands.MultiLook
+body_checks frame commands.MultiEdit = multi_checks frame commands.MultiEdit
+body_checks frame command = []
+
 -- the checks of a request's frame in their order, each with the status of a frame that fails it
 abbrev pub checks : Features → Frame → Command → List (Bool × Status)
 checks features frame command =
@@ -206,6 +217,8 @@ body_with key frame commands.CollectionId = bodies.CollectionId (path_of frame)
 body_with key frame commands.ScopeId = bodies.ScopeId (path_of frame)
 body_with key frame (commands.Look lookup) = bodies.Look key (spec_of frame)
 body_with key frame (commands.Edit edit) = bodies.Edit key (spec_of frame) (given_expiry frame.extras) (doc_flags frame.extras)
+body_with key frame commands.MultiLook = bodies.MultiLook key (specs_of commands.MultiLook frame)
+body_with key frame commands.MultiEdit = bodies.MultiEdit key (specs_of commands.MultiEdit frame) (multi_expiry frame.extras) (multi_flags frame.extras)
 
 -- what the request of a frame asks for
 abbrev pub body_of : Features → Frame → Command → Body
@@ -325,6 +338,8 @@ key_named (bodies.Join key front value) = Some key
 key_named (bodies.Touch key expiry fetch) = Some key
 key_named (bodies.Look key spec) = Some key
 key_named (bodies.Edit key spec expiry flags) = Some key
+key_named (bodies.MultiLook key specs) = Some key
+key_named (bodies.MultiEdit key specs expiry flags) = Some key
 
 -- the document's key that a request names, and an empty one where it names none
 abbrev pub document_key : Body → DocKey
@@ -348,6 +363,14 @@ value_brought (bodies.Join key front value) = value
 value_brought (bodies.Touch key expiry fetch) = []
 value_brought (bodies.Look key spec) = spec.path ++ spec.value
 value_brought (bodies.Edit key spec expiry flags) = spec.path ++ spec.value
+value_brought (bodies.MultiLook key specs) = specs_bytes false specs
+value_brought (bodies.MultiEdit key specs expiry flags) = specs_bytes true specs
+
+-- the specs of a request on several parts, none of any other
+abbrev pub specs_brought : Body → List Spec
+specs_brought (bodies.MultiLook key specs) = specs
+specs_brought (bodies.MultiEdit key specs expiry flags) = specs
+specs_brought body = []
 
 -- whether a session answers a request by itself, since it asks nothing of a vbucket
 abbrev pub is_for_session : Body → Bool
@@ -363,7 +386,7 @@ pub record IsSmallKey (key : DocKey) : Type 0 where
   pub within : length key.key ≤ name_limit key.collection
   pub collection : key.collection < 2 ^ 32
 
--- a request whose numbers fit their fields, and whose key and value are within their limits
+-- a request whose numbers fit their fields, and whose key, value and specs are within their limits
 pub record IsSmallRequest (made : Request) : Type 0 where
   pub opcode : made.opcode < 2 ^ 8
   pub opaque : made.opaque < 2 ^ 32
@@ -371,3 +394,4 @@ pub record IsSmallRequest (made : Request) : Type 0 where
   pub vbucket : made.vbucket < 2 ^ 16
   pub key : IfSome (key_named made.body) IsSmallKey
   pub value : length (value_brought made.body) ≤ VALUE_LIMIT
+  pub specs : length (specs_brought made.body) ≤ MOST_SPECS

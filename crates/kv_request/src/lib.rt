@@ -66,6 +66,7 @@
 #![tactic(auto)]
 
 mod laws;
+mod multi;
 pub mod opcode;
 mod parts;
 mod reading;
@@ -74,6 +75,7 @@ mod request;
 mod writing;
 
 pub use laws::{keys_as_spelled, part_numbers, request_numbers, requests_are_small, small_replies};
+pub use multi::MOST_SPECS;
 pub use opcode::Command;
 pub use parts::{ADDS_DOCUMENT, EXPANDS_MACROS, IS_XATTR, MAKES_DOCUMENT, MAKES_PARENTS};
 pub use reading::{

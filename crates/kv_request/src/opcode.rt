@@ -133,6 +133,12 @@ pub const EDIT_ARRAY_ADD_UNIQUE: u8 = 0xce;
 /// Counts a whole number up or down.
 pub const EDIT_COUNTER: u8 = 0xcf;
 
+/// Look-ups at several paths.
+pub const MULTI_LOOK: u8 = 0xd0;
+
+/// Edits at several paths, all or none.
+pub const MULTI_EDIT: u8 = 0xd1;
+
 /// The first and the last opcode of streams between nodes.
 pub const FIRST_STREAM: u8 = 0x50;
 
@@ -166,6 +172,10 @@ pub enum Command {
     Look(Lookup),
     /// An edit of a part of a document.
     Edit(Edit),
+    /// A look at several parts of a document.
+    MultiLook,
+    /// An edit of several parts of a document.
+    MultiEdit,
 }
 
 impl Command {
@@ -197,6 +207,8 @@ impl Command {
             GET_MANIFEST => Some(Command::GetManifest),
             COLLECTION_ID => Some(Command::CollectionId),
             SCOPE_ID => Some(Command::ScopeId),
+            MULTI_LOOK => Some(Command::MultiLook),
+            MULTI_EDIT => Some(Command::MultiEdit),
             _ => part_command(opcode),
         }
     }
@@ -240,6 +252,7 @@ impl Command {
                 | Command::Append
                 | Command::Prepend
                 | Command::Edit(_)
+                | Command::MultiEdit
         )
     }
 

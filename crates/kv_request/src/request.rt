@@ -110,6 +110,23 @@ pub enum Body {
         /// As the client spelt them: see `MAKES_DOCUMENT` and `ADDS_DOCUMENT`.
         doc_flags: u8,
     },
+    /// Parts of the document of the key, to be looked at.
+    MultiLook {
+        key: DocKey,
+        /// 1 to 16.
+        specs: Seq<Spec>,
+    },
+    /// Parts of the document of the key, to be edited one after the other, all of them or none. The document keeps its
+    /// expiry where none is given.
+    MultiEdit {
+        key: DocKey,
+        /// 1 to 16.
+        specs: Seq<Spec>,
+        /// As the client spelt it: 0 for none, seconds from now or since 1970.
+        expiry: Option<u32>,
+        /// As the client spelt them: see `MAKES_DOCUMENT` and `ADDS_DOCUMENT`.
+        doc_flags: u8,
+    },
     /// A manifest to take the place of the one that is there.
     SetManifest {
         text: Bytes,

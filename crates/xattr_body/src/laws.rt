@@ -7,12 +7,13 @@ ghost use Rattle.xattr_body.specs.Section.{pairs_bytes, section_of, HaveSection,
 ghost use Rattle.xattr_body.specs.Faults.{Breaks};
 ghost use Rattle.xattr_body.specs.Edits.{value_of, with_pair, without};
 
-use crate::{NAME_LIMIT, VALUE_DEEP};
+use crate::{NAME_LIMIT, SECTION_LIMIT, VALUE_DEEP};
 
 /// The limits have these numbers.
 pub fn limits()
     ensures name { NAME_LIMIT ≡ 16 }
     ensures deep { VALUE_DEEP ≡ 31 }
+    ensures section { SECTION_LIMIT ≡ 1048576 }
 {}
 
 /// What is written is read back: attributes that have a section have one, and bytes are the section

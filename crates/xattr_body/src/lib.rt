@@ -68,5 +68,8 @@ pub const NAME_LIMIT: usize = 16;
 /// How deep the objects and arrays of an attribute's text may nest.
 pub const VALUE_DEEP: u8 = 31;
 
+/// How many bytes a section has at most.
+pub const SECTION_LIMIT: usize = 1_048_576;
+
 /// How many bytes a length has.
 const LENGTH_SIZE: usize = 4;
