@@ -15,15 +15,19 @@ use Rattle.leb_collections.proofs.Functions.{id_at_below}
 use Rattle.doc_model.specs.declared.key.DocKey.{DocKey}
 use Rattle.doc_model.specs.declared.status.Status.{Status}
 use Rattle.doc_model.specs.declared.status.TheConstants.Status as status
+use Rattle.kv_request.specs.declared.multi.TheConstants.{MOST_SPECS}
 use Rattle.kv_request.specs.declared.reading.TheConstants.{VALUE_LIMIT}
 use Rattle.kv_request.specs.declared.opcode.Command.{Command}
 use Rattle.kv_request.specs.declared.opcode.Command.TheVariants as commands
 use Rattle.kv_request.specs.declared.request.Features.{Features}
 use Rattle.kv_request.specs.declared.request.Request.{Request}
+use Rattle.kv_request.specs.declared.request.Spec.{Spec}
 use Rattle.kv_request.specs.declared.reply.Reply.{Reply}
 use Rattle.kv_request.specs.Opcodes.{command_of, is_of_streams}
 use Rattle.kv_request.specs.Parts.{path_length}
-use Rattle.kv_request.specs.Tables.{key_within, name_limit, key_from, is_key, value_limit, no_key, key_bytes, name_length, checks, first_failing, request_of, checked, flags_bytes, token_bytes, IsReply, IsSmallReply, IsRequest, IsSmallRequest, IsSmallKey, key_named, value_brought, body_of}
+use Rattle.kv_request.specs.Multi.{specs_bytes, specs_in, specs_of, are_few}
+use Rattle.kv_request.specs.Tables.{key_within, name_limit, key_from, is_key, value_limit, no_key, key_bytes, name_length, body_checks, checks, first_failing, request_of, checked, flags_bytes, token_bytes, IsReply, IsSmallReply, IsRequest, IsSmallRequest, IsSmallKey, key_named, value_brought, specs_brought, body_of}
+use Rattle.kv_request.proofs.Walking.{specs_long}
 
 flags_short : (flags : Option ℕ) → length (flags_bytes flags) ≤ 4
 flags_short None = omega arith
@@ -81,13 +85,14 @@ none_fails (Some s) x y e = absurd (cc)
 record Passed (features : Features) (f : Frame) (command : Command) (made : Request) : Type 0 where
   key : is_key features command f.key ≡ true
   value : nat_le (length f.value) (value_limit command) ≡ true
+  body : AllByRecursion (λ c. c.0 ≡ true) (body_checks f command)
   is : request_of features f command ≡ made
 
 passed : (features : Features) (f : Frame) (command : Command) (made : Request) → checked features f command ≡ Ok made → Passed features f command made
 passed features f command made e =
     let h = none_fails (first_failing (checks features f command)) (request_of features f command) made e in
     let all : AllByRecursion (λ c. c.0 ≡ true) (checks features f command) = all_pass (checks features f command) h.0 in
-    record { key = all.1.1.1.1.1.1.1.1.0; value = all.1.1.1.1.1.1.1.1.1.0; is = h.1 }
+    record { key = all.1.1.1.1.1.1.1.1.0; value = all.1.1.1.1.1.1.1.1.1.0; body = all.1.1.1.1.1.1.1.1.1.1.1; is = h.1 }
 
 -- a name that is neither empty nor too long
 named_small : (b : Bool) (collection : ℕ) (name : List ℕ) → collection < 2 ^ 32 →
@@ -142,6 +147,11 @@ either_short false x y h k = k
 parted_short : (n : ℕ) (s : List ℕ) → length s ≤ VALUE_LIMIT → length (take n s ++ drop n s) ≤ VALUE_LIMIT
 parted_short n s h = rw take-append-drop h
 
+-- specs that are read have as many bytes as they were read from
+specs_short : (edits : Bool) (bytes : List ℕ) (specs : Option (List Spec)) → specs_in edits bytes ≡ specs → length bytes ≤ VALUE_LIMIT → length (specs_bytes edits (unwrap_or specs [])) ≤ VALUE_LIMIT
+specs_short edits bytes None is h = omega arith
+specs_short edits bytes (Some specs) is h = omega (arith, specs_long edits bytes specs is)
+
 small_value : (features : Features) (f : Frame) (command : Command) → length f.key ≤ VALUE_LIMIT → length f.value ≤ VALUE_LIMIT → length (value_brought (body_of features f command)) ≤ VALUE_LIMIT
 small_value features f commands.Set k v = v
 small_value features f commands.Add k v = v
@@ -153,7 +163,17 @@ small_value features f commands.CollectionId k v = either_short (nat_eq (length 
 small_value features f commands.ScopeId k v = either_short (nat_eq (length f.key) 0) f.value f.key v k
 small_value features f (commands.Look lookup) k v = parted_short (path_length f) f.value v
 small_value features f (commands.Edit edit) k v = parted_short (path_length f) f.value v
+small_value features f commands.MultiLook k v = specs_short false f.value (specs_in false f.value) refl v
+small_value features f commands.MultiEdit k v = specs_short true f.value (specs_in true f.value) refl v
 small_value features f command k v = omega arith
+
+few : (specs : List Spec) → are_few specs ≡ true → length specs ≤ MOST_SPECS
+few specs e = leb-true (length specs) MOST_SPECS (and_parts (nat_le 1 (length specs)) (nat_le (length specs) MOST_SPECS) e).1
+
+small_specs : (features : Features) (f : Frame) (command : Command) → AllByRecursion (λ c. c.0 ≡ true) (body_checks f command) → length (specs_brought (body_of features f command)) ≤ MOST_SPECS
+small_specs features f commands.MultiLook all = few (specs_of commands.MultiLook f) all.1.1.0
+small_specs features f commands.MultiEdit all = few (specs_of commands.MultiEdit f) all.1.1.0
+small_specs features f command all = omega arith
 
 small_made : (features : Features) (f : Frame) (command : Command) (made : Request) → Fits f → Passed features f command made → IsSmallRequest made
 small_made features f command made fits h =
@@ -166,6 +186,7 @@ small_made features f command made fits h =
       vbucket = fits.word;
       key = small_key features f command h.key;
       value = small_value features f command key value;
+      specs = small_specs features f command h.body;
     })
 
 of_command : (features : Features) (f : Frame) (command : Option Command) (made : Request) → Fits f → option_map_or (checked features f) command (Err status.UNKNOWN_COMMAND) ≡ Ok made → IsSmallRequest made

@@ -74,7 +74,10 @@ mod reply;
 mod request;
 mod writing;
 
-pub use laws::{keys_as_spelled, part_numbers, request_numbers, requests_are_small, small_replies};
+pub use laws::{
+    keys_as_spelled, part_numbers, request_numbers, requests_are_small, small_replies,
+    specs_as_spelled,
+};
 pub use multi::MOST_SPECS;
 pub use opcode::Command;
 pub use parts::{ADDS_DOCUMENT, EXPANDS_MACROS, IS_XATTR, MAKES_DOCUMENT, MAKES_PARENTS};

@@ -303,7 +303,7 @@ impl Command {
 }
 
 /// What an opcode asks of a part of a document.
-fn part_command(opcode: u8) -> Option<Command>
+pub(crate) fn part_command(opcode: u8) -> Option<Command>
     ensures { result ≡ part_command opcode }
 {
     match opcode {

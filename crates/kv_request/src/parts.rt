@@ -4,10 +4,11 @@ ghost use Rattle.std.specs.Prelude.{◌≡◌, ◌≤◌, true, length, IfOk};
 ghost use Rattle.kv_frame.specs.Viewing.{frame_seen};
 ghost use Rattle.kv_request.specs.declared.request.Body.TheVariants as bodies;
 ghost use Rattle.kv_request.specs.Parts.{path_length, path_flags, given_expiry, doc_flags, spec_of};
-ghost use Rattle.kv_request.specs.Parts.{are_doc_flags, spec_checks, part_checks, body_checks};
-ghost use Rattle.kv_request.specs.Tables.{has_form, first_failing};
+ghost use Rattle.kv_request.specs.Parts.{is_attribute, are_doc_flags, spec_checks, part_checks};
+ghost use Rattle.kv_request.specs.Tables.{has_form, body_checks, first_failing};
 ghost use Rattle.kv_request.specs.Viewing.{spec_seen};
 
+use crate::multi::check_multi;
 use crate::opcode::Command;
 use crate::reading::word_at;
 use crate::request::{Body, Spec};
@@ -37,10 +38,19 @@ const UNKNOWN_FLAGS: u8 = 0xea;
 /// A path into a document where it lies, and what comes with it.
 #[derive(Clone, Copy)]
 pub(crate) struct SpecView<'a> {
-    opcode: u8,
-    flags: u8,
-    path: &'a [u8],
-    value: &'a [u8],
+    pub(crate) opcode: u8,
+    pub(crate) flags: u8,
+    pub(crate) path: &'a [u8],
+    pub(crate) value: &'a [u8],
+}
+
+impl SpecView<'_> {
+    /// Whether the path leads into the document's attributes, and not into its value.
+    pub(crate) fn is_attribute(self) -> bool
+        ensures { result ≡ is_attribute (spec_seen self.entry) }
+    {
+        self.flags & IS_XATTR != 0
+    }
 }
 
 /// The status of the first check that what a command brings fails, beside key and CAS.
@@ -50,6 +60,7 @@ pub(crate) fn check_body(view: &FrameView<'_>, command: Command) -> Option<Statu
 {
     match command {
         Command::Look(_) | Command::Edit(_) => check_part(view, command),
+        Command::MultiLook | Command::MultiEdit => check_multi(view, command),
         _ => None,
     }
 }
@@ -73,15 +84,15 @@ fn check_part(view: &FrameView<'_>, command: Command) -> Option<Status>
 }
 
 /// The status of the first check that a path and its flags fail.
-fn check_spec(command: Command, spec: SpecView<'_>) -> Option<Status>
+pub(crate) fn check_spec(command: Command, spec: SpecView<'_>) -> Option<Status>
     ensures { result ≡ first_failing (spec_checks command (spec_seen spec.entry)) }
 {
-    let is_xattr = spec.flags & IS_XATTR != 0;
+    let is_attribute = spec.is_attribute();
     let expands_macros = spec.flags & EXPANDS_MACROS != 0;
     if spec.flags & UNKNOWN_FLAGS != 0 {
         return Some(Status::EINVAL);
     }
-    if expands_macros && !is_xattr {
+    if expands_macros && !is_attribute {
         return Some(Status::XATTR_INVALID_FLAG_COMBO);
     }
     if expands_macros {
@@ -90,11 +101,8 @@ fn check_spec(command: Command, spec: SpecView<'_>) -> Option<Status>
     if spec.flags & MAKES_PARENTS != 0 && !command.may_make_parents() {
         return Some(Status::EINVAL);
     }
-    if spec.path.is_empty() && (is_xattr || !command.takes_whole()) {
+    if spec.path.is_empty() && (is_attribute || !command.takes_whole()) {
         return Some(Status::EINVAL);
-    }
-    if is_xattr {
-        return Some(Status::NOT_SUPPORTED);
     }
     None
 }
@@ -143,22 +151,20 @@ fn doc_flags(extras: &[u8]) -> u8
     }
 }
 
-/// Whether a command takes these flags of a document: a look-up none, an edit one of two or none.
-fn are_doc_flags(command: Command, flags: u8) -> bool
+/// Whether a command takes these flags of a document: look-ups none, edits one of two or none.
+pub(crate) fn are_doc_flags(command: Command, flags: u8) -> bool
     ensures { result ≡ are_doc_flags command flags }
 {
     match command {
-        Command::Look(_) => flags == 0,
+        Command::Look(_) | Command::MultiLook => flags == 0,
         _ => flags == 0 || flags == MAKES_DOCUMENT || flags == ADDS_DOCUMENT,
     }
 }
 
-/// What a request on a part of a document asks for there, with copies of path and value.
-fn copy_spec(alloc: Global, view: &FrameView<'_>) -> Result<Spec, NoMemory>
-    requires { 3 ≤ length view.now.extras.now }
-    ensures { IfOk result (λ made. made ≡ spec_of (frame_seen view.now)) }
+/// What is asked for at a path, with copies of path and value.
+pub(crate) fn copy_spec(alloc: Global, spec: SpecView<'_>) -> Result<Spec, NoMemory>
+    ensures { IfOk result (λ made. made ≡ spec_seen spec.entry) }
 {
-    let spec = spec_of(view);
     let path = Bytes::from_slice(alloc, spec.path)?;
     let value = Bytes::from_slice(alloc, spec.value)?;
     Ok(Spec {
@@ -174,7 +180,7 @@ pub(crate) fn look(alloc: Global, view: &FrameView<'_>, key: DocKey) -> Result<B
     requires { 3 ≤ length view.now.extras.now }
     ensures { IfOk result (λ made. made ≡ bodies.Look key (spec_of (frame_seen view.now))) }
 {
-    let spec = copy_spec(alloc, view)?;
+    let spec = copy_spec(alloc, spec_of(view))?;
     Ok(Body::Look { key, spec })
 }
 
@@ -184,7 +190,7 @@ pub(crate) fn edit(alloc: Global, view: &FrameView<'_>, key: DocKey) -> Result<B
     ensures { IfOk result (λ made. made ≡ bodies.Edit key (spec_of (frame_seen view.now))
         (given_expiry view.now.extras.now) (doc_flags view.now.extras.now)) }
 {
-    let spec = copy_spec(alloc, view)?;
+    let spec = copy_spec(alloc, spec_of(view))?;
     Ok(Body::Edit {
         key,
         spec,

@@ -1,4 +1,4 @@
-ghost use Rattle.std.specs.Prelude.{◌≡◌, ◌+◌, ◌≤◌, true, length, option_map, IfOk};
+ghost use Rattle.std.specs.Prelude.{◌≡◌, ◌+◌, ◌≤◌, true, None, length, option_map, IfOk};
 ghost use Rattle.std.specs.Option.{option_copied};
 ghost use Rattle.kv_frame.specs.Viewing.{frame_seen};
 ghost use Rattle.kv_request.specs.Reading.{Reads};
@@ -6,9 +6,10 @@ ghost use Rattle.kv_request.specs.Tables.{has_form, is_cas_taken, word_at, long_
 ghost use Rattle.kv_request.specs.Tables.{level_count, is_level_form, has_timeout, has_level};
 ghost use Rattle.kv_request.specs.Tables.{timeout_of, durability_of, is_even, has_one_path};
 ghost use Rattle.kv_request.specs.Tables.{name_limit, key_from, value_limit, path_of, stored, counted};
-ghost use Rattle.kv_request.specs.Tables.{joined, touched, pairs_of, body_with};
+ghost use Rattle.kv_request.specs.Tables.{joined, touched, pairs_of, body_checks, first_failing, body_with};
 ghost use Rattle.kv_request.specs.Viewing.{key_seen, FindsKey, Checks};
 
+use crate::multi::{multi_edit, multi_look};
 use crate::opcode::{Command, FIRST_STREAM, LAST_STREAM};
 use crate::parts::{check_body, edit, look};
 use crate::request::{Body, Durability, Features, Mode, Request};
@@ -227,6 +228,10 @@ fn has_form(view: &FrameView<'_>, command: Command) -> bool
         Command::SetManifest => extras == 0 && key == 0 && value > 0,
         Command::Look(_) => (extras == 3 || extras == 4) && key > 0,
         Command::Edit(_) => (extras == 3 || extras == 4 || extras == 7 || extras == 8) && key > 0,
+        Command::MultiLook => (extras == 0 || extras == 1) && key > 0,
+        Command::MultiEdit => {
+            (extras == 0 || extras == 1 || extras == 4 || extras == 5) && key > 0
+        }
     }
 }
 
@@ -326,7 +331,8 @@ fn body(
     key: DocKey,
     command: Command,
 ) -> Result<Body, NoMemory>
-    requires { has_form (frame_seen view.now) command ≡ true }
+    requires form { has_form (frame_seen view.now) command ≡ true }
+    requires passed { first_failing (body_checks (frame_seen view.now) command) ≡ None }
     ensures { IfOk result (λ made. made ≡ body_with key (frame_seen view.now) command) }
 {
     match command {
@@ -359,6 +365,8 @@ fn body(
         }),
         Command::Look(_) => look(alloc, view, key),
         Command::Edit(_) => edit(alloc, view, key),
+        Command::MultiLook => multi_look(alloc, view, key),
+        Command::MultiEdit => multi_edit(alloc, view, key),
     }
 }
 

@@ -1,3 +1,4 @@
+use crate::parts::IS_XATTR;
 use doc_model::DocKey;
 use kv_edge::{Bytes, Seq};
 
@@ -43,6 +44,18 @@ pub struct Spec {
     pub path: Bytes,
     /// What comes with an edit, empty where nothing does.
     pub value: Bytes,
+}
+
+impl Spec {
+    ghost use Rattle.std.specs.Prelude.{◌≡◌};
+    ghost use Rattle.kv_request.specs.Parts.{is_attribute};
+
+    /// Whether the path leads into the document's attributes, and not into its value.
+    pub fn is_attribute(&self) -> bool
+        ensures { result ≡ is_attribute self.now }
+    {
+        self.flags & IS_XATTR != 0
+    }
 }
 
 /// What a request asks for, with what that needs.
