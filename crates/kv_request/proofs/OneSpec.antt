@@ -177,8 +177,8 @@ edit_again spec rest fits =
     let more = to_be_bytes w32 (length spec.value) in
     let back : List ℕ = spec.path ++ (spec.value ++ rest) in
     let regrouped : (size ++ (more ++ (spec.path ++ spec.value))) ++ rest ≡ size ++ (more ++ back) =
-        append_assoc size (more ++ (spec.path ++ spec.value)) rest
-        ∙ ap (λ l. size ++ l) (append_assoc more (spec.path ++ spec.value) rest ∙ ap (λ l. more ++ l) (append_assoc spec.path spec.value rest)) in
+    append_assoc size (more ++ (spec.path ++ spec.value)) rest
+    ∙ ap (λ l. size ++ l) (append_assoc more (spec.path ++ spec.value) rest ∙ ap (λ l. more ++ l) (append_assoc spec.path spec.value rest)) in
     ap (λ l. edit_flags spec.opcode (spec.flags, l)) regrouped
     ∙ ap (λ r. r >>= edit_size spec.opcode spec.flags) (number_again w16 (2 ^ 16) wide16 (length spec.path) (more ++ back) fits.path)
     ∙ ap (λ r. r >>= edit_more spec.opcode spec.flags (length spec.path)) (number_again w32 (2 ^ 32) wide32 (length spec.value) back fits.value)

@@ -75,15 +75,15 @@ pub specs_spelled : (edits : Bool) (bytes : List ℕ) (specs : List Spec) → Is
 specs_spelled edits bytes specs all e =
     by_specs edits (λ bytes specs. IsBytes bytes → bytes ≡ specs_bytes edits specs) (λ all. refl)
     (λ bytes spec rest specs read so all.
-        let t = spec_takes edits bytes spec rest all read in
-        t.parts ∙ ap (λ l. spec_bytes edits spec ++ l) (so t.rest_fits))
+    let t = spec_takes edits bytes spec rest all read in
+    t.parts ∙ ap (λ l. spec_bytes edits spec ++ l) (so t.rest_fits))
     (length bytes) bytes specs e all
 
 pub specs_long : (edits : Bool) (bytes : List ℕ) (specs : List Spec) → specs_in edits bytes ≡ Some specs → length (specs_bytes edits specs) ≡ length bytes
 specs_long edits bytes specs e =
     by_specs edits (λ bytes specs. length (specs_bytes edits specs) ≡ length bytes) refl
     (λ bytes spec rest specs read so.
-        omega (arith, so, spec_long edits bytes spec rest read, length-append (spec_bytes edits spec) (specs_bytes edits specs)))
+    omega (arith, so, spec_long edits bytes spec rest read, length-append (spec_bytes edits spec) (specs_bytes edits specs)))
     (length bytes) bytes specs e
 
 -- ---- a walk

@@ -30,7 +30,7 @@ AreSpecs edits bytes = is_some (specs_in edits bytes) ≡ true
 abbrev pub specs_at : Bool → List ℕ → List Spec
 specs_at edits bytes = unwrap_or (specs_in edits bytes) []
 
--- the checks of specs which are neither too many nor of another kind
+-- the checks of specs behind those of their number and their kind
 abbrev pub specs_checks : Bool → List Spec → List (Bool × Status)
 specs_checks edits specs =
     flat_map own_checks specs

@@ -90,7 +90,7 @@ pub(crate) fn check_multi(view: &FrameView<'_>, command: Command) -> Option<Stat
     check_specs(edits, view.value)
 }
 
-/// The status of the first check that specs fail which are neither too many nor of another kind.
+/// The status of the first check that the specs fail, behind those of their number and their kind.
 #[tactic(auto, using(crate::proofs::Failing::fails_before, crate::proofs::Failing::passes_before))]
 fn check_specs(edits: bool, bytes: &[u8]) -> Option<Status>
     requires { AreSpecs edits bytes.now }
@@ -116,7 +116,7 @@ fn edits_parts(command: Command) -> bool
 }
 
 /// How many specs the bytes are, or nothing where they aren't just specs.
-#[tactic(auto, using(crate::proofs::Walking::count_step, crate::proofs::Walking::specs_end, crate::proofs::Walking::spec_shorter))]
+#[tactic(auto, using(crate::proofs::Walking::specs_end, crate::proofs::Walking::spec_shorter))]
 fn count_specs(edits: bool, bytes: &[u8]) -> Option<usize>
     ensures { result ≡ option_map length (specs_in edits bytes.now) }
 {
@@ -264,7 +264,7 @@ fn multi_flags(extras: &[u8]) -> u8
 }
 
 /// Copies of the specs.
-#[tactic(auto, using(crate::proofs::Walking::walks, crate::proofs::Walking::walked))]
+#[tactic(auto, using(crate::proofs::Walking::walks))]
 fn copy_specs(alloc: Global, edits: bool, bytes: &[u8]) -> Result<Seq<Spec>, NoMemory>
     requires { AreSpecs edits bytes.now }
     ensures { IfOk result (λ made. made ≡ specs_at edits bytes.now) }
@@ -279,11 +279,7 @@ fn copy_specs(alloc: Global, edits: bool, bytes: &[u8]) -> Result<Seq<Spec>, NoM
 }
 
 /// Parts of a document to look at.
-pub(crate) fn multi_look(
-    alloc: Global,
-    view: &FrameView<'_>,
-    key: DocKey,
-) -> Result<Body, NoMemory>
+pub(crate) fn multi_look(alloc: Global, view: &FrameView<'_>, key: DocKey) -> Result<Body, NoMemory>
     requires { AreSpecs false view.now.value.now }
     ensures { IfOk result (λ made. made ≡ bodies.MultiLook key (specs_of commands.MultiLook (frame_seen view.now))) }
 {
@@ -292,11 +288,7 @@ pub(crate) fn multi_look(
 }
 
 /// Parts of a document to edit.
-pub(crate) fn multi_edit(
-    alloc: Global,
-    view: &FrameView<'_>,
-    key: DocKey,
-) -> Result<Body, NoMemory>
+pub(crate) fn multi_edit(alloc: Global, view: &FrameView<'_>, key: DocKey) -> Result<Body, NoMemory>
     requires { AreSpecs true view.now.value.now }
     ensures { IfOk result (λ made. made ≡ bodies.MultiEdit key (specs_of commands.MultiEdit (frame_seen view.now))
         (multi_expiry view.now.extras.now) (multi_flags view.now.extras.now)) }

@@ -1,12 +1,12 @@
-use crate::tests::{EINVAL, NOT_SUPPORTED, NOTHING, READ, frame_with, outcome};
+use crate::tests::{EINVAL, NOTHING, READ, frame_with, outcome};
 use hex_rows::bytes_of;
 use kv_edge::Bytes;
 use std::alloc::Global;
 use std::test::Fail;
 
-const INVALID_FLAG_COMBO: u16 = 0x00ce;
+pub(crate) const INVALID_FLAG_COMBO: u16 = 0x00ce;
 
-const UNKNOWN_MACRO: u16 = 0x00d0;
+pub(crate) const UNKNOWN_MACRO: u16 = 0x00d0;
 
 /// Requests on parts of documents: opcode, extras in hexadecimal digits, value, and the status.
 const PARTS: [(u8, &str, &str, u16); 76] = [
@@ -91,8 +91,8 @@ const PARTS: [(u8, &str, &str, u16); 76] = [
     (0xcb, "0000 04", "1", EINVAL),
     (0xd2, "0000 04", "", EINVAL),
     // Attributes.
-    (0xc5, "0001 04", "p", NOT_SUPPORTED),
-    (0xc8, "0001 05", "p1", NOT_SUPPORTED),
+    (0xc5, "0001 04", "p", READ),
+    (0xc8, "0001 05", "p1", READ),
 ];
 
 /// The place of the first request on a part of a document with another status.

@@ -27,7 +27,7 @@ pub(crate) const EINVAL: u16 = 0x0004;
 
 const UNKNOWN_COMMAND: u16 = 0x0081;
 
-pub(crate) const NOT_SUPPORTED: u16 = 0x0083;
+const NOT_SUPPORTED: u16 = 0x0083;
 
 const INVALID_LEVEL: u16 = 0x00a0;
 
@@ -41,7 +41,7 @@ const NO_EXPIRY: u64 = 0x1_0000_0000;
 const REFUSED: (u32, usize) = (0, 1000);
 
 /// The frame that all of the bytes are.
-fn frame_of(alloc: Global, text: &str) -> Result<Frame, Fail> {
+pub(crate) fn frame_of(alloc: Global, text: &str) -> Result<Frame, Fail> {
     let bytes = bytes_of(alloc, text)?;
     match decode(alloc, Side::Requests, &bytes)? {
         Step::Whole(frame, used) => {
@@ -161,6 +161,8 @@ fn kind(body: &Body) -> (&'static str, [u64; 4]) {
                 [u64::from(spec.opcode), flags, expiry, u64::from(*doc_flags)],
             )
         }
+        Body::MultiLook { specs, .. } => ("looks", [specs.len() as u64, 0, 0, 0]),
+        Body::MultiEdit { specs, .. } => ("edits", [specs.len() as u64, 0, 0, 0]),
         Body::SetManifest { .. } => ("set manifest", [0; 4]),
         Body::GetManifest => ("get manifest", [0; 4]),
         Body::CollectionId { .. } => ("collection", [0; 4]),
@@ -178,7 +180,9 @@ fn key(body: &Body) -> (u32, &[u8]) {
         | Body::Join { key, .. }
         | Body::Touch { key, .. }
         | Body::Look { key, .. }
-        | Body::Edit { key, .. } => (key.collection, key.key.as_slice()),
+        | Body::Edit { key, .. }
+        | Body::MultiLook { key, .. }
+        | Body::MultiEdit { key, .. } => (key.collection, key.key.as_slice()),
         _ => (0, b""),
     }
 }
@@ -231,7 +235,7 @@ fn asked(alloc: Global, frame: &Frame) -> &'static str {
 }
 
 /// Frames with what they are read as, where collections are granted or not.
-const READINGS: [(&str, bool, Head, Brought<'static>); 16] = [
+const READINGS: [(&str, bool, Head, Brought<'static>); 18] = [
     (
         "80 00 0001 00 00 0000 00000001 deadbeef 0000000000000000 61",
         false,
@@ -328,6 +332,18 @@ const READINGS: [(&str, bool, Head, Brought<'static>); 16] = [
         (0xcf, 1, 0, 0),
         ("edit", [0xcf, 1, 0, 1], 0, "a", "bc", "-5"),
     ),
+    (
+        "80 d0 0002 01 00 0000 0000000d 00000001 0000000000000000 00 0861 c500000170 c600000171",
+        true,
+        (0xd0, 1, 0, 0),
+        ("looks", [2, 0, 0, 0], 8, "a", "", ""),
+    ),
+    (
+        "80 d1 0001 00 00 0000 0000001e 00000003 0000000000000000 6d c8000001000000017932 ca000001000000017133 c90000010000000072",
+        false,
+        (0xd1, 3, 0, 0),
+        ("edits", [3, 0, 0, 0], 0, "m", "", ""),
+    ),
 ];
 
 /// The place of the first frame that is read as another request.
@@ -406,7 +422,7 @@ fn each_opcode_asks_for_its_own(rt: HostRuntime) -> Result<(), Fail> {
 }
 
 /// Frames by what they show, with the status, and level and timeout where a level is asked for.
-const STATUSES: [(&str, &str, u16, (u8, u16)); 35] = [
+const STATUSES: [(&str, &str, u16, (u8, u16)); 39] = [
     (
         "alone",
         "08 01 02 01 08 00 0000 0000000c 00000005 0000000000000000 1101 0000000000000000 61 31",
@@ -606,6 +622,30 @@ const STATUSES: [(&str, &str, u16, (u8, u16)); 35] = [
         NO_LEVEL,
     ),
     (
+        "edits with a level",
+        "08 d1 02 01 00 00 0000 0000000d 00000001 0000000000000000 1101 61 c8000001000000017031",
+        READ,
+        (1, 30_000),
+    ),
+    (
+        "look-ups with a level",
+        "08 d0 02 01 00 00 0000 00000008 00000001 0000000000000000 1101 61 c500000170",
+        EINVAL,
+        NO_LEVEL,
+    ),
+    (
+        "edits without a key",
+        "80 d1 0000 00 00 0000 0000000a 00000001 0000000000000000 c8000001000000017031",
+        EINVAL,
+        NO_LEVEL,
+    ),
+    (
+        "look-ups without a key",
+        "80 d0 0000 00 00 0000 00000005 00000001 0000000000000000 c500000170",
+        EINVAL,
+        NO_LEVEL,
+    ),
+    (
         "an edit without a key",
         "80 c8 0000 03 00 0000 00000005 00000001 0000000000000000 0001 00 62 31",
         EINVAL,
@@ -640,8 +680,9 @@ fn the_first_check_that_fails_gives_the_status(rt: HostRuntime) -> Result<(), Fa
 }
 
 /// Opcodes with the lengths of extras, key and value and the CAS of a frame, and the status. The
-/// paths of those on parts of documents have no byte, which one of the two opcodes doesn't take.
-const SIZES: [(u8, usize, usize, usize, u64, u16); 9] = [
+/// paths of those on one part have no byte, which one of the two opcodes doesn't take, and blanks
+/// are no specs.
+const SIZES: [(u8, usize, usize, usize, u64, u16); 13] = [
     (0x02, 8, 250, 20_971_520, 0, READ),
     (0x02, 8, 250, 20_971_521, 1, E2BIG),
     (0x02, 8, 251, 20_971_521, 1, EINVAL),
@@ -651,6 +692,10 @@ const SIZES: [(u8, usize, usize, usize, u64, u16); 9] = [
     (0xcb, 3, 1, 20_971_521, 0, E2BIG),
     (0xcd, 3, 1, 20_971_520, 0, EINVAL),
     (0xcd, 3, 1, 20_971_521, 0, E2BIG),
+    (0xd0, 0, 1, 20_971_520, 0, EINVAL),
+    (0xd0, 0, 1, 20_971_521, 0, E2BIG),
+    (0xd1, 0, 1, 20_971_520, 0, EINVAL),
+    (0xd1, 0, 1, 20_971_521, 0, E2BIG),
 ];
 
 /// The place of the first frame of these sizes with another status.

@@ -9,7 +9,7 @@ loop-spec-preserved c =
     let more = specs_at c.args.edits c.in-Some.behind.now in
     let w = walks c.args.edits c.loop-spec.rest.now spec c.in-Some.behind.now (sym c.in-Some.ensures) c.loop-spec.invariant.are in
     let pushed : c.push.new.self ≡ c.loop-spec.specs ++ spec ∷ [] =
-        c.in_ok-push.ensures.ok ∙ ap (λ s. c.loop-spec.specs ++ s ∷ []) c.in_ok-copy_spec.ensures in
+    c.in_ok-push.ensures.ok ∙ ap (λ s. c.loop-spec.specs ++ s ∷ []) c.in_ok-copy_spec.ensures in
     record {
       are = w.are;
       all = ap (λ specs. specs ++ more) pushed
