@@ -3,7 +3,6 @@ use Rattle.std.proofs.Common.{◌≡◌, ℕ, zero, suc, ◌+◌, ◌<◌, ◌�
 use Rattle.std.specs.Prelude.{is_some, unwrap_or, option_map}
 use Rattle.std.specs.List.{AllByRecursion}
 use Rattle.kv_edge.specs.Fields.{IsBytes}
-use Rattle.kv_edge.proofs.Fields.{some_is}
 use Rattle.kv_request.specs.declared.request.Spec.{Spec}
 use Rattle.kv_request.specs.Multi.{spec_bytes, specs_bytes, look_spec_at, edit_spec_at, spec_at, and_more, specs_from, specs_in, FitsSpec}
 use Rattle.kv_request.specs.Viewing.{AreSpecs, specs_at}

@@ -1,6 +1,5 @@
-use Rattle.std.proofs.Common.{◌≡◌, List, Some, None, sym, ap, ◌∙◌}
+use Rattle.std.proofs.Common.{sym, ap, ◌∙◌}
 use Rattle.std.specs.List.{flat_map}
-use Rattle.doc_model.specs.declared.status.Status.{Status}
 use Rattle.kv_request.specs.Multi.{own_checks}
 use Rattle.kv_request.specs.Tables.{first_failing}
 use Rattle.kv_request.specs.Viewing.{spec_seen, specs_at}

@@ -1,4 +1,4 @@
-use Rattle.std.proofs.Common.{◌≡◌, sym, ap, ◌∙◌, length, arith, rules}
+use Rattle.std.proofs.Common.{◌≡◌, sym, ◌∙◌, length, arith, rules}
 use Rattle.kv_request.specs.Viewing.{spec_seen}
 use Rattle.kv_request.proofs.Walking.{count_step, counted, spec_shorter}
 use Rattle.kv_request.proofs.multi.count_specs.Goals as goal
