@@ -40,7 +40,8 @@ pub fn keys_as_spelled()
         AreBytes bytes → key_from granted bytes ≡ Some key → bytes ≡ key_spelling granted key }
 {}
 
-/// Specs are read from the bytes that spell them, and no other bytes are read as them, whether they are look-ups or edits.
+/// Specs are read from the bytes that spell them, and no other bytes are read as them, whether they are look-ups or
+/// edits.
 pub fn specs_as_spelled()
     ensures read { (edits : Bool) (specs : List Spec) →
         AllByRecursion (FitsSpec edits) specs → specs_in edits (specs_bytes edits specs) ≡ Some specs }

@@ -1,12 +1,13 @@
-//! Requests on several parts of a document: their specs, their checks, and what they ask for. Their value is walked
-//! once for each check, so that none takes memory before all are passed.
+//! Requests on several parts of a document: their specs, their checks, and what they ask for. Their
+//! value is walked once for each check, so that no memory is taken before all are passed.
 
 ghost use Rattle.std.specs.Prelude.{◌≡◌, true, false, length, option_map, IfOk};
 ghost use Rattle.std.specs.List.{flat_map, list_all};
 ghost use Rattle.kv_frame.specs.Viewing.{frame_seen};
 ghost use Rattle.kv_request.specs.declared.opcode.Command.TheVariants as commands;
 ghost use Rattle.kv_request.specs.declared.request.Body.TheVariants as bodies;
-ghost use Rattle.kv_request.specs.Multi.{multi_expiry, multi_flags, look_spec_at, edit_spec_at, spec_at, specs_in};
+ghost use Rattle.kv_request.specs.Multi.{multi_expiry, multi_flags};
+ghost use Rattle.kv_request.specs.Multi.{look_spec_at, edit_spec_at, spec_at, specs_in};
 ghost use Rattle.kv_request.specs.Multi.{edits_parts, specs_of, is_of_kind, own_checks, attributes_first};
 ghost use Rattle.kv_request.specs.Multi.{name_spelt, names_spelt, are_same, multi_checks};
 ghost use Rattle.kv_request.specs.Tables.{first_failing};
@@ -281,7 +282,8 @@ fn copy_specs(alloc: Global, edits: bool, bytes: &[u8]) -> Result<Seq<Spec>, NoM
 /// Parts of a document to look at.
 pub(crate) fn multi_look(alloc: Global, view: &FrameView<'_>, key: DocKey) -> Result<Body, NoMemory>
     requires { AreSpecs false view.now.value.now }
-    ensures { IfOk result (λ made. made ≡ bodies.MultiLook key (specs_of commands.MultiLook (frame_seen view.now))) }
+    ensures { IfOk result (λ made. made ≡ bodies.MultiLook key
+        (specs_of commands.MultiLook (frame_seen view.now))) }
 {
     let specs = copy_specs(alloc, false, view.value)?;
     Ok(Body::MultiLook { key, specs })
@@ -290,7 +292,8 @@ pub(crate) fn multi_look(alloc: Global, view: &FrameView<'_>, key: DocKey) -> Re
 /// Parts of a document to edit.
 pub(crate) fn multi_edit(alloc: Global, view: &FrameView<'_>, key: DocKey) -> Result<Body, NoMemory>
     requires { AreSpecs true view.now.value.now }
-    ensures { IfOk result (λ made. made ≡ bodies.MultiEdit key (specs_of commands.MultiEdit (frame_seen view.now))
+    ensures { IfOk result (λ made. made ≡ bodies.MultiEdit key
+        (specs_of commands.MultiEdit (frame_seen view.now))
         (multi_expiry view.now.extras.now) (multi_flags view.now.extras.now)) }
 {
     let specs = copy_specs(alloc, true, view.value)?;
