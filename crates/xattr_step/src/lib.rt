@@ -21,7 +21,4 @@
 
 mod laws;
 
-pub use laws::{
-    attributes_are_an_object, edits_keep_the_others, edits_leave_sections, nothing_is_found_in_none,
-    upserted_attribute_is_found,
-};
+pub use laws::attributes_are_an_object;
