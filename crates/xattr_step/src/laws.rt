@@ -1,13 +1,20 @@
 //! What the answers mean for those who ask. Each function does nothing; its contract is the law.
 
-ghost use Rattle.std.specs.Prelude.{List};
+ghost use Rattle.std.specs.Prelude.{◌≡◌, ℕ, List, [], Ok};
+ghost use Rattle.json_model.specs.declared.asked.Lookup.{Lookup};
 ghost use Rattle.json_model.specs.declared.TheConstants.{MOST_DEEP};
 ghost use Rattle.json_model.specs.Spelled.{Document, IsText};
 ghost use Rattle.xattr_body.specs.Section.{Pair, ArePairs};
 ghost use Rattle.xattr_step.specs.Object.{object_text};
+ghost use Rattle.xattr_step.specs.Answers.{looked_up_in};
 
 /// Attributes that may stand together are one JSON object, at most 32 deep.
 pub fn attributes_are_an_object()
     ensures { (pairs : List Pair) → ArePairs pairs
         → (d : Document) × IsText MOST_DEEP d (object_text pairs) }
+{}
+
+/// Where there are no attributes, a look-up finds none.
+pub fn nothing_is_found_in_none()
+    ensures { (lookup : Lookup) (path found : List ℕ) → looked_up_in lookup [] path ≡ Ok found → ⊥ }
 {}
