@@ -1,3 +1,4 @@
 pub mod Objects
 pub mod Steps
 pub mod Found
+pub mod Kept

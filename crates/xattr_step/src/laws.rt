@@ -1,17 +1,27 @@
 //! What the answers mean for those who ask. Each function does nothing; its contract is the law.
 
-ghost use Rattle.std.specs.Prelude.{◌≡◌, ℕ, List, [], Ok};
+ghost use Rattle.std.specs.Prelude.{◌≡◌, ◌≢◌, ℕ, Bool, List, [], Ok};
 ghost use Rattle.json_model.specs.declared.asked.Lookup.{Lookup};
+ghost use Rattle.json_model.specs.declared.asked.Edit.{Edit};
 ghost use Rattle.json_model.specs.declared.TheConstants.{MOST_DEEP};
 ghost use Rattle.json_model.specs.Spelled.{Document, IsText};
 ghost use Rattle.xattr_body.specs.Section.{Pair, ArePairs};
+ghost use Rattle.xattr_body.specs.Edits.{value_of};
 ghost use Rattle.xattr_step.specs.Object.{object_text};
-ghost use Rattle.xattr_step.specs.Answers.{looked_up_in};
+ghost use Rattle.xattr_step.specs.Answers.{read_attribute, looked_up_in, EditedPairs, edited_in};
 
 /// Attributes that may stand together are one JSON object, at most 32 deep.
 pub fn attributes_are_an_object()
     ensures { (pairs : List Pair) → ArePairs pairs
         → (d : Document) × IsText MOST_DEEP d (object_text pairs) }
+{}
+
+/// An edit leaves each attribute but the one that its path leads into.
+pub fn edits_keep_the_others()
+    ensures { (edit : Edit) (several : Bool) (pairs : List Pair) (path value : List ℕ) (made : EditedPairs)
+        (name other : List ℕ)
+        → edited_in edit several pairs path value ≡ Ok made → read_attribute path ≡ Ok name
+        → other ≢ name → value_of other made.pairs ≡ value_of other pairs }
 {}
 
 /// Where there are no attributes, a look-up finds none.

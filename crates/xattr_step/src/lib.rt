@@ -21,4 +21,4 @@
 
 mod laws;
 
-pub use laws::{attributes_are_an_object, nothing_is_found_in_none};
+pub use laws::{attributes_are_an_object, edits_keep_the_others, nothing_is_found_in_none};
