@@ -2,3 +2,5 @@ pub mod Objects
 pub mod Steps
 pub mod Found
 pub mod Kept
+pub mod Texts
+pub mod Sections

@@ -5,7 +5,7 @@ ghost use Rattle.json_model.specs.declared.asked.Lookup.{Lookup};
 ghost use Rattle.json_model.specs.declared.asked.Edit.{Edit};
 ghost use Rattle.json_model.specs.declared.TheConstants.{MOST_DEEP};
 ghost use Rattle.json_model.specs.Spelled.{Document, IsText};
-ghost use Rattle.xattr_body.specs.Section.{Pair, ArePairs};
+ghost use Rattle.xattr_body.specs.Section.{Pair, ArePairs, HaveSection};
 ghost use Rattle.xattr_body.specs.Edits.{value_of};
 ghost use Rattle.xattr_step.specs.Object.{object_text};
 ghost use Rattle.xattr_step.specs.Answers.{read_attribute, looked_up_in, EditedPairs, edited_in};
@@ -14,6 +14,13 @@ ghost use Rattle.xattr_step.specs.Answers.{read_attribute, looked_up_in, EditedP
 pub fn attributes_are_an_object()
     ensures { (pairs : List Pair) → ArePairs pairs
         → (d : Document) × IsText MOST_DEEP d (object_text pairs) }
+{}
+
+/// An edit of attributes that have a section leaves attributes that have one.
+pub fn edits_leave_sections()
+    ensures { (edit : Edit) (several : Bool) (pairs : List Pair) (path value : List ℕ) (made : EditedPairs)
+        → HaveSection pairs → edited_in edit several pairs path value ≡ Ok made
+        → HaveSection made.pairs }
 {}
 
 /// An edit leaves each attribute but the one that its path leads into.

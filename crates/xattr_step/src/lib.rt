@@ -21,4 +21,6 @@
 
 mod laws;
 
-pub use laws::{attributes_are_an_object, edits_keep_the_others, nothing_is_found_in_none};
+pub use laws::{
+    attributes_are_an_object, edits_keep_the_others, edits_leave_sections, nothing_is_found_in_none,
+};
