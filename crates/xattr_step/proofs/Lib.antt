@@ -4,3 +4,4 @@ pub mod Found
 pub mod Kept
 pub mod Texts
 pub mod Sections
+pub mod Upserted

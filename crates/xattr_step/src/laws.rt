@@ -2,9 +2,11 @@
 
 ghost use Rattle.std.specs.Prelude.{◌≡◌, ◌≢◌, ℕ, Bool, List, [], Ok};
 ghost use Rattle.json_model.specs.declared.asked.Lookup.{Lookup};
+ghost use Rattle.json_model.specs.declared.asked.Lookup.TheVariants as lookups;
 ghost use Rattle.json_model.specs.declared.asked.Edit.{Edit};
+ghost use Rattle.json_model.specs.declared.asked.Edit.TheVariants as edits;
 ghost use Rattle.json_model.specs.declared.TheConstants.{MOST_DEEP};
-ghost use Rattle.json_model.specs.Spelled.{Document, IsText};
+ghost use Rattle.json_model.specs.Spelled.{text, Document, IsText};
 ghost use Rattle.xattr_body.specs.Section.{Pair, ArePairs, HaveSection};
 ghost use Rattle.xattr_body.specs.Edits.{value_of};
 ghost use Rattle.xattr_step.specs.Object.{object_text};
@@ -34,4 +36,13 @@ pub fn edits_keep_the_others()
 /// Where there are no attributes, a look-up finds none.
 pub fn nothing_is_found_in_none()
     ensures { (lookup : Lookup) (path found : List ℕ) → looked_up_in lookup [] path ≡ Ok found → ⊥ }
+{}
+
+/// What is upserted at a path is what is found there then, without the blanks at both ends of the
+/// value.
+pub fn upserted_attribute_is_found()
+    ensures { (several : Bool) (pairs : List Pair) (path value : List ℕ) (made : EditedPairs)
+        → HaveSection pairs → edited_in edits.DictUpsert several pairs path value ≡ Ok made
+        → (d : Document) × IsText MOST_DEEP d value
+        × (looked_up_in lookups.Get made.pairs path ≡ Ok (text d.tree)) }
 {}

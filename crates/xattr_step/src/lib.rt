@@ -22,5 +22,6 @@
 mod laws;
 
 pub use laws::{
-    attributes_are_an_object, edits_keep_the_others, edits_leave_sections, nothing_is_found_in_none,
+    attributes_are_an_object, edits_keep_the_others, edits_leave_sections,
+    nothing_is_found_in_none, upserted_attribute_is_found,
 };
