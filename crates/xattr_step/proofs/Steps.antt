@@ -1,18 +1,20 @@
 -- The name that a path of attributes leads into, and what happened where an edit of attributes went well.
-use Rattle.std.proofs.Common.{◌≡◌, ◌≢◌, ℕ, ◌≤◌, List, [], ◌∷◌, length, Bool, true, false, cond, Err, refl, ap, subst, arith}
-use Rattle.std.specs.Prelude.{nat_eq, nat_le, not, ◌&&◌}
+use Rattle.std.proofs.Common.{suc, ◌<◌, ap₂, Result, Ok, sym, ◌∙◌, ◌≡◌, ◌≢◌, ℕ, ◌≤◌, List, [], ◌∷◌, length, Bool, true, false, cond, Err, refl, ap, subst, arith}
+use Rattle.std.specs.Prelude.{nat_eq, nat_le, not, ◌&&◌, ◌||◌}
 use Rattle.std.specs.List.{list_any}
 use Rattle.std.proofs.lemmas.Bool.Decides.{nat_tests}
-use Rattle.std.proofs.lemmas.List.Elements.{All-nil, All-cons}
+use Rattle.std.proofs.lemmas.List.Elements.{All-head, All-tail, All-nil, All-cons}
+use Rattle.doc_model.specs.declared.status.Status.{Status}
 use Rattle.doc_model.specs.declared.status.TheConstants.Status as status
 use Rattle.json_model.specs.declared.asked.Part.{Part}
 use Rattle.json_model.specs.declared.asked.Part.TheVariants.{Member, At, Last}
 use Rattle.json_model.specs.declared.asked.Lookup.{Lookup}
 use Rattle.json_model.specs.declared.asked.Edit.{Edit}
+use Rattle.json_model.specs.Paths.{ReadsPath}
 use Rattle.json_model.specs.Order.{EditedText}
 use Rattle.subdoc_step.specs.Paths.{read_parts}
 use Rattle.subdoc_step.specs.Answers.{◌>>=◌, looked_up, edited}
-use Rattle.subdoc_step.proofs.Paths.{path_is}
+use Rattle.subdoc_step.proofs.Paths.{path_is, path_only}
 use Rattle.subdoc_step.proofs.Names.{path_names}
 use Rattle.subdoc_step.proofs.Went.{fine, gave}
 use Rattle.xattr_body.specs.declared.TheConstants.{NAME_LIMIT, SECTION_LIMIT}
@@ -71,6 +73,34 @@ pub leads : (path name : List ℕ) → read_attribute path ≡ fine name → Lea
 unfolding read_attribute
 leads path name e = let a = gave (read_parts path) attribute_of name e in leads_by path name a.value a.is a.then_is
 
+-- ---- names that are refused
+
+any_zero : (bytes : List ℕ) → HasNoZero bytes → list_any (nat_eq 0) bytes ≡ false
+any_zero [] h = refl
+any_zero (x ∷ xs) h = ap₂ (λ a b. a || b) (differs x (All-head (λ byte. byte ≢ 0) x xs h)) (any_zero xs (All-tail (λ byte. byte ≢ 0) x xs h))
+  where
+    differs : (x : ℕ) → x ≢ 0 → nat_eq 0 x ≡ false
+    differs x n = grind (arith, nat_tests)
+
+refused_by : (name : List ℕ) (some short zero : Bool) → some ≡ true → short ≡ true → zero ≡ false
+    → cond ((some && short) && not zero) (cond true (Err status.XATTR_UNKNOWN_VATTR) (fine name)) (Err status.PATH_EINVAL) ≡ Err status.XATTR_UNKNOWN_VATTR
+refused_by name true true false a b c = refl
+refused_by name true true true a b c = cc
+refused_by name true false zero a b c = cc
+refused_by name false short zero a b c = cc
+
+pub worked_out : (path name : List ℕ) (rest : List Part) → ReadsPath path (Ok (Member (0x24 ∷ name) ∷ rest)) → length name < NAME_LIMIT → HasNoZero name → read_attribute path ≡ Err status.XATTR_UNKNOWN_VATTR
+unfolding read_attribute
+worked_out path name rest p short none =
+    ap (λ (r : Result (List Part) Status). r >>= attribute_of) (sym (path_only path (Ok (Member (0x24 ∷ name) ∷ rest)) p))
+    ∙ refused_by (0x24 ∷ name) (nat_le 1 (length (0x24 ∷ name))) (nat_le (length (0x24 ∷ name)) NAME_LIMIT) (list_any (nat_eq 0) (0x24 ∷ name)) (some (length name)) (within_limit (length name) short) (any_zero name none)
+  where
+    some : (n : ℕ) → nat_le 1 (suc n) ≡ true
+    some n = grind (arith, nat_tests)
+
+    within_limit : (n : ℕ) → n < NAME_LIMIT → nat_le (suc n) NAME_LIMIT ≡ true
+    within_limit n h = grind (arith, nat_tests)
+
 -- ---- look-ups
 
 -- a look-up of attributes that went well
@@ -110,3 +140,6 @@ went_in edit several pairs path value made h =
     let left : EditedPairs = record { pairs = with_text a.value pairs (text_at a.value b.value.text); number = b.value.number } in
     let f = fitting_is left made (nat_le (length (section_of left.pairs)) SECTION_LIMIT) refl b.then_is in
     record { name = a.value; left = b.value; name_is = a.is; left_is = b.is; pairs_are = ap (λ (x : EditedPairs). x.pairs) f.1; room = f.0 }
+
+pub section_within : (edit : Edit) (several : Bool) (pairs : List Pair) (path value : List ℕ) (made : EditedPairs) → edited_in edit several pairs path value ≡ Ok made → length (section_of made.pairs) ≤ SECTION_LIMIT
+section_within edit several pairs path value made e = (went_in edit several pairs path value made e).room
