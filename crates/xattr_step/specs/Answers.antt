@@ -1,5 +1,5 @@
 -- What a look-up and an edit of a document's extended attributes answer.
-use Rattle.std.specs.Prelude.{ℕ, nat_eq, nat_le, nat_lt, List, [], ◌∷◌, ◌++◌, length, reverse, Bool, not, ◌&&◌, Option, Some, None, Result, Ok, Err, ℤ, if◌then◌else◌}
+use Rattle.std.specs.Prelude.{ℕ, nat_eq, nat_le, List, [], ◌∷◌, ◌++◌, length, reverse, Bool, false, not, ◌&&◌, Option, Some, None, Result, Ok, Err, ℤ, if◌then◌else◌}
 use Rattle.std.specs.List.{list_any}
 use Rattle.doc_model.specs.declared.status.Status.{Status}
 use Rattle.doc_model.specs.declared.status.TheConstants.Status as status

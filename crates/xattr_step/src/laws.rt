@@ -1,6 +1,7 @@
 //! What the answers mean for those who ask. Each function does nothing; its contract is the law.
 
-ghost use Rattle.std.specs.Prelude.{◌≡◌, ◌≢◌, ℕ, Bool, List, [], ◌∷◌, Option, Some, Result, Ok, IsTrue};
+ghost use Rattle.std.specs.Prelude.{◌≡◌, ◌≢◌, ℕ, ◌<◌, ◌≤◌, Bool, List, [], ◌∷◌, length, Ok, Err};
+ghost use Rattle.doc_model.specs.declared.status.TheConstants.Status as status;
 ghost use Rattle.json_model.specs.declared.asked.Part.{Part};
 ghost use Rattle.json_model.specs.declared.asked.Part.TheVariants.{Member};
 ghost use Rattle.json_model.specs.declared.asked.Lookup.{Lookup};
@@ -9,7 +10,9 @@ ghost use Rattle.json_model.specs.declared.asked.Edit.{Edit};
 ghost use Rattle.json_model.specs.declared.asked.Edit.TheVariants as edits;
 ghost use Rattle.json_model.specs.declared.TheConstants.{MOST_DEEP};
 ghost use Rattle.json_model.specs.Spelled.{text, Document, IsText};
-ghost use Rattle.xattr_body.specs.Section.{Pair, names, ArePairs, HaveSection};
+ghost use Rattle.json_model.specs.Paths.{ReadsPath};
+ghost use Rattle.xattr_body.specs.declared.TheConstants.{NAME_LIMIT, SECTION_LIMIT};
+ghost use Rattle.xattr_body.specs.Section.{Pair, HasNoZero, ArePairs, section_of, HaveSection};
 ghost use Rattle.xattr_body.specs.Edits.{value_of};
 ghost use Rattle.xattr_step.specs.Object.{object_text};
 ghost use Rattle.xattr_step.specs.Answers.{read_attribute, looked_up_in, EditedPairs, edited_in};
@@ -47,4 +50,18 @@ pub fn upserted_attribute_is_found()
         → HaveSection pairs → edited_in edits.DictUpsert several pairs path value ≡ Ok made
         → (d : Document) × IsText MOST_DEEP d value
         × (looked_up_in lookups.Get made.pairs path ≡ Ok (text d.tree)) }
+{}
+
+/// The section of the attributes that an edit leaves has no more bytes than the limit.
+pub fn sections_are_within()
+    ensures { (edit : Edit) (several : Bool) (pairs : List Pair) (path value : List ℕ) (made : EditedPairs)
+        → edited_in edit several pairs path value ≡ Ok made
+        → length (section_of made.pairs) ≤ SECTION_LIMIT }
+{}
+
+/// No path leads into an attribute that is worked out: a name that begins with `$` is refused.
+pub fn worked_out_names_are_refused()
+    ensures { (path name : List ℕ) (rest : List Part) → ReadsPath path (Ok (Member (0x24 ∷ name) ∷ rest))
+        → length name < NAME_LIMIT → HasNoZero name
+        → read_attribute path ≡ Err status.XATTR_UNKNOWN_VATTR }
 {}

@@ -22,6 +22,7 @@
 mod laws;
 
 pub use laws::{
-    attributes_are_an_object, edits_keep_the_others, edits_leave_sections, nothing_is_found_in_none,
-    upserted_attribute_is_found,
+    attributes_are_an_object, edits_keep_the_others, edits_leave_sections,
+    nothing_is_found_in_none, sections_are_within, upserted_attribute_is_found,
+    worked_out_names_are_refused,
 };
