@@ -9,3 +9,4 @@ pub mod Splicing
 pub mod Numbers
 pub mod Planning
 pub mod Editing
+pub mod Judging

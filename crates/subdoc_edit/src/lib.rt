@@ -89,7 +89,9 @@ mod values;
 mod walking;
 
 pub use editing::{Edited, edit, edit_of};
-pub use looking::{Piece, look, lookup_of, one_answer};
+pub use looking::{Piece, look, look_judged, lookup_of, one_answer};
+pub use parents::put_key;
+pub use reading::judge;
 
 #[cfg(test)]
 mod edit_tests;

@@ -7,10 +7,11 @@ ghost use Rattle.json_model.specs.Order.{Looks};
 ghost use Rattle.json_model.specs.Edit.{lookup_of};
 ghost use Rattle.json_model.specs.Spelled.{Tree};
 ghost use Rattle.json_walk.specs.Places.{IsAt};
+ghost use Rattle.subdoc_edit.specs.Judging.{IsJudged};
 ghost use Rattle.subdoc_edit.specs.Looking.{TellsLooked, TellsLook, Finds, RefusesLook};
 
 use crate::kinds::holds_others;
-use crate::reading::{check_text, path_of};
+use crate::reading::{check_judged, judge, path_of};
 use doc_model::{Refused, Status};
 use json_model::Lookup;
 use json_walk::{count, kind_at, value_end};
@@ -70,12 +71,19 @@ fn looked(lookup: Lookup, text: &[u8], at: usize) -> Result<Piece, Refused>
     }
 }
 
-/// Looks at a path.
-fn look_at(alloc: Global, lookup: Lookup, text: &[u8], path: &[u8]) -> Result<Piece, Refused>
+/// Looks at a path of a text that was judged.
+fn look_at(
+    alloc: Global,
+    lookup: Lookup,
+    text: &[u8],
+    judged: Option<Status>,
+    path: &[u8],
+) -> Result<Piece, Refused>
+    requires { IsJudged text.now judged }
     ensures { TellsLook lookup text.now path.now result }
 {
     let path = path_of(alloc, path)?;
-    check_text(text)?;
+    check_judged(judged)?;
     let led = follow(text, path.parts());
     match led {
         Led::At(at) => looked(lookup, text, at),
@@ -98,8 +106,27 @@ pub fn look(alloc: Global, opcode: u8, text: &[u8], path: &[u8]) -> Result<Piece
     ensures refused { (s : Status) → result ≡ Err (Refused.Status s)
         → RefusesLook opcode text.now path.now s }
 {
+    look_judged(alloc, opcode, text, judge(text), path)
+}
+
+/// Looks at a path of a text of which `judged` is what `judge` tells, so that several look-ups in
+/// one text judge it once. Otherwise it is as `look`: what the text is refused for is told behind
+/// what the path is refused for.
+pub fn look_judged(
+    alloc: Global,
+    opcode: u8,
+    text: &[u8],
+    judged: Option<Status>,
+    path: &[u8],
+) -> Result<Piece, Refused>
+    requires known { IsSome (lookup_of opcode) }
+    requires judged { IsJudged text.now judged }
+    ensures found { IfOk result (λ piece. Finds opcode text.now path.now piece) }
+    ensures refused { (s : Status) → result ≡ Err (Refused.Status s)
+        → RefusesLook opcode text.now path.now s }
+{
     match lookup_of(opcode) {
-        Some(lookup) => look_at(alloc, lookup, text, path),
+        Some(lookup) => look_at(alloc, lookup, text, judged, path),
         None => Err(Refused::NoMemory),
     }
 }

@@ -56,8 +56,9 @@ fn put_byte(out: &mut Vec<u8>, byte: u8) -> Result<(), NoMemory>
     Ok(())
 }
 
-/// Adds a key, in quotes.
-fn put_key(out: &mut Vec<u8>, name: &[u8]) -> Result<(), NoMemory>
+/// Adds the key of a new member, in quotes: a quotation mark and a reverse solidus stand behind a
+/// reverse solidus, a control character is written by its number, and all else as it is.
+pub fn put_key(out: &mut Vec<u8>, name: &[u8]) -> Result<(), NoMemory>
     ensures { OnOk result (out.new.items ≡ out.old.items ++ key_text name.now) }
 {
     out.push(b'"')?;

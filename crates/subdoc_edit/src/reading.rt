@@ -1,8 +1,9 @@
 //! The path and the document of a request, or the status by which they are refused.
 
-ghost use Rattle.std.specs.Prelude.{Ok, Err};
+ghost use Rattle.std.specs.Prelude.{ℕ, List, Ok, Err};
 ghost use Rattle.json_model.specs.Paths.{ReadsPath};
 ghost use Rattle.json_model.specs.Order.{ReadsText};
+ghost use Rattle.subdoc_edit.specs.Judging.{IsJudged};
 ghost use Rattle.subdoc_edit.specs.Splicing.{IsDocument};
 ghost use Rattle.subdoc_edit.specs.Telling.{Told};
 
@@ -24,13 +25,32 @@ pub fn path_of(alloc: Global, bytes: &[u8]) -> Result<Path, Refused>
     }
 }
 
+/// Why bytes are no JSON text at most 32 deep: DOC_NOT_JSON where they are none, DOC_E2DEEP where
+/// one nests deeper; none where they are one.
+pub fn judge(text: &[u8]) -> Option<Status>
+    ensures { IsJudged text.now result }
+{
+    match judge_text(text) {
+        Judgement::Json => None,
+        Judgement::Not(_) => Some(Status::DOC_NOT_JSON),
+        Judgement::Deep(_) => Some(Status::DOC_E2DEEP),
+    }
+}
+
+/// Refuses a text that was judged to be none.
+pub fn check_judged(judged: Option<Status>) -> Result<(), Refused>
+    ensures { (text : List ℕ) → IsJudged text judged
+        → Told (λ done. IsDocument text) (λ s. ReadsText text (Err s)) result }
+{
+    match judged {
+        Some(status) => Err(Refused::Status(status)),
+        None => Ok(()),
+    }
+}
+
 /// Whether bytes are a JSON text at most 32 deep.
 pub fn check_text(text: &[u8]) -> Result<(), Refused>
     ensures { Told (λ done. IsDocument text.now) (λ s. ReadsText text.now (Err s)) result }
 {
-    match judge_text(text) {
-        Judgement::Json => Ok(()),
-        Judgement::Not(_) => Err(Refused::Status(Status::DOC_NOT_JSON)),
-        Judgement::Deep(_) => Err(Refused::Status(Status::DOC_E2DEEP)),
-    }
+    check_judged(judge(text))
 }
