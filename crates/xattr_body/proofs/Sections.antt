@@ -1,9 +1,9 @@
 -- Bytes are the section of one list of pairs at most, or break off at one place.
-use Rattle.std.proofs.Common.{◌≡◌, ◌≢◌, ℕ, ◌+◌, ◌<◌, ◌≤◌, ◌^◌, ◌⊎◌, inl, inr, List, [], ◌∷◌, ◌++◌, length, min, ◌-◌, refl, sym, ap, ap₂, subst, ◌∙◌, append_assoc, append-nil, length-append, arith}
+use Rattle.std.proofs.Common.{◌≡◌, ◌≢◌, ℕ, ◌+◌, ◌<◌, ◌≤◌, ◌^◌, ◌⊎◌, inl, inr, List, [], ◌∷◌, ◌++◌, length, min, ◌-◌, refl, sym, ap, subst, ◌∙◌, append_assoc, append-nil, length-append, arith}
 use Rattle.std.proofs.lemmas.List.Elements.{All-head, All-tail, All-nil, All-cons}
 use Rattle.std.specs.List.{All}
 use Rattle.std.specs.Int.{w32, to_be_bytes}
-use Rattle.xattr_body.specs.Section.{Pair, IsPair, pair_bytes, names, are_distinct, pairs_bytes, section_of, ArePairs, HaveSection, IsSection}
+use Rattle.xattr_body.specs.Section.{Pair, IsPair, pair_body, pair_bytes, names, are_distinct, pairs_bytes, section_of, ArePairs, IsSection}
 use Rattle.xattr_body.specs.Faults.{IsBehindLength, PairsBreak, Breaks, at_length, at_pair}
 use Rattle.xattr_body.specs.Fields.{SizedAt, PairAt}
 use Rattle.xattr_body.proofs.Names.{distinct_front, names-append}
@@ -120,15 +120,15 @@ all_behind bytes body rest s none some = record {
     nonempty (x ∷ l) n = omega arith
 
 -- the section of some pairs
-section_some : (pair : Pair) (more : List Pair) → section_of (pair ∷ more) ≡ to_be_bytes w32 (length (pairs_bytes (pair ∷ more))) ++ pairs_bytes (pair ∷ more)
+pub section_some : (pair : Pair) (more : List Pair) → section_of (pair ∷ more) ≡ to_be_bytes w32 (length (pairs_bytes (pair ∷ more))) ++ pairs_bytes (pair ∷ more)
 unfolding section_of
 section_some pair more = refl
 
-section_none : section_of [] ≡ []
+pub section_none : section_of [] ≡ []
 unfolding section_of
 section_none = refl
 
-bytes_some : (pair : Pair) (more : List Pair) → 1 ≤ length (pairs_bytes (pair ∷ more))
+pub bytes_some : (pair : Pair) (more : List Pair) → 1 ≤ length (pairs_bytes (pair ∷ more))
 bytes_some pair more = omega (arith, pair_some (pairs_bytes (pair ∷ more)) pair (pairs_bytes more) refl)
 
 -- a section is empty, or stands behind its length
@@ -151,11 +151,6 @@ section_found (pair ∷ more) bytes behind b h e = record {
   whole = record { together = h; fits = subst (λ (l : List ℕ). length l < 2 ^ 32) e b.fits };
   spelled = b.front ∙ ap (λ (l : List ℕ). to_be_bytes w32 (length l) ++ l) e ∙ sym (section_some pair more);
 }
-
--- what is written
-pub section_written : (pairs : List Pair) (bytes : List ℕ) → HaveSection pairs → pairs ≢ [] → bytes ≡ to_be_bytes w32 (length (pairs_bytes pairs)) ++ pairs_bytes pairs → IsSection pairs bytes
-section_written [] bytes h n e = absurd (n refl)
-section_written (pair ∷ more) bytes h n e = record { whole = h; spelled = e ∙ sym (section_some pair more) }
 
 -- ---- the laws
 
@@ -204,11 +199,21 @@ size_some pairs slice size whole is n s w =
     let l : length (pairs_bytes slice) ≡ length (pairs_bytes pairs) = ap (λ (x : List Pair). length (pairs_bytes x)) is in
     omega (arith, c, l, s, w)
 
-pub written_none : (pairs slice : List Pair) (bytes : List ℕ) → slice ≡ pairs → slice ≡ [] → bytes ≡ [] → IsSection pairs bytes
-written_none pairs slice bytes is none e = subst (λ (l : List Pair). IsSection l bytes) (sym none ∙ is) (empty_section bytes e)
+-- ---- what is written
 
-pub written_some : (pairs slice : List Pair) (size : ℕ) (bytes : List ℕ) → HaveSection pairs → slice ≡ pairs → slice ≢ [] → size ≡ min (length (pairs_bytes slice)) (2 ^ 64 - 1) → bytes ≡ to_be_bytes w32 size ++ pairs_bytes slice → IsSection pairs bytes
-written_some pairs slice size bytes h is n s e =
-    let l : length (pairs_bytes slice) ≡ length (pairs_bytes pairs) = ap (λ (x : List Pair). length (pairs_bytes x)) is in
-    let counted : size ≡ length (pairs_bytes pairs) = omega (arith, l, s, h.fits) in
-    section_written pairs bytes h (λ k. n (is ∙ k)) (e ∙ ap₂ (λ (m : ℕ) (x : List Pair). to_be_bytes w32 m ++ pairs_bytes x) counted is)
+-- each pair fits where they all do
+pub each_fits : (pairs : List Pair) → length (pairs_bytes pairs) < 2 ^ 32 → All (λ pair. length (pair_body pair) < 2 ^ 32) pairs
+each_fits [] h = All-nil (λ pair. length (pair_body pair) < 2 ^ 32)
+each_fits (p ∷ ps) h =
+    let all : length (pairs_bytes (p ∷ ps)) ≡ length (pair_bytes p) + length (pairs_bytes ps) = length-append (pair_bytes p) (pairs_bytes ps) in
+    let one : length (pair_bytes p) ≡ length (to_be_bytes w32 (length (pair_body p))) + length (pair_body p) = length-append (to_be_bytes w32 (length (pair_body p))) (pair_body p) in
+    All-cons (λ pair. length (pair_body pair) < 2 ^ 32) p ps (omega (arith, h)) (each_fits ps (omega (arith, h)))
+
+pub written_none : (pairs : List Pair) (bytes : List ℕ) → pairs ≡ [] → bytes ≡ [] → bytes ≡ section_of pairs
+written_none pairs bytes none e = e ∙ sym section_none ∙ ap section_of (sym none)
+
+pub written_some : (pairs : List Pair) (size : ℕ) (bytes : List ℕ) → length (pairs_bytes pairs) < 2 ^ 32 → pairs ≢ [] → size ≡ min (length (pairs_bytes pairs)) (2 ^ 64 - 1) → bytes ≡ to_be_bytes w32 size ++ pairs_bytes pairs → bytes ≡ section_of pairs
+written_some [] size bytes h n s e = absurd (n refl)
+written_some (p ∷ ps) size bytes h n s e =
+    let counted : size ≡ length (pairs_bytes (p ∷ ps)) = omega (arith, s, h) in
+    e ∙ ap (λ (m : ℕ). to_be_bytes w32 m ++ pairs_bytes (p ∷ ps)) counted ∙ sym (section_some p ps)

@@ -1,6 +1,6 @@
 -- The pairs of a section as a function, for definitions that say what a document comes to. Of bytes that are no section it
 -- gives the pairs at their front.
-use Rattle.std.specs.Prelude.{◌≡◌, ℕ, zero, suc, ◌+◌, ◌-◌, nat_eq, List, [], ◌∷◌, length, take, drop, position, Option, Some, None}
+use Rattle.std.specs.Prelude.{ℕ, zero, suc, ◌+◌, ◌-◌, nat_eq, List, [], ◌∷◌, length, take, drop, position, Option, Some, None}
 use Rattle.std.specs.Option.{option_map_or}
 use Rattle.std.specs.Int.{w32}
 use Rattle.kv_edge.specs.Fields.{◌>>=◌, number_at, bytes_at}

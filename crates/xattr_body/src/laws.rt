@@ -6,6 +6,7 @@ ghost use Rattle.xattr_body.specs.Section.{Pair, same_name, names, IsPair, ArePa
 ghost use Rattle.xattr_body.specs.Section.{pairs_bytes, section_of, HaveSection, IsSection};
 ghost use Rattle.xattr_body.specs.Faults.{Breaks};
 ghost use Rattle.xattr_body.specs.Edits.{value_of, with_pair, without};
+ghost use Rattle.xattr_body.specs.Pairs.{pairs_in};
 
 use crate::{NAME_LIMIT, SECTION_LIMIT, VALUE_DEEP};
 
@@ -16,15 +17,19 @@ pub fn limits()
     ensures section { SECTION_LIMIT ≡ 1048576 }
 {}
 
-/// What is written is read back: attributes that have a section have one, and bytes are the section
-/// of one list at most.
+/// What is written is read back: attributes that have a section have one, bytes are the section of
+/// one list at most, and the pairs of a section are these.
 pub fn section_is_read_back()
     ensures written { (pairs : List Pair) → HaveSection pairs
         → IsSection pairs (section_of pairs) }
+    ensures read { (pairs : List Pair) → HaveSection pairs
+        → pairs_in (section_of pairs) ≡ pairs }
     ensures one_section { (pairs : List Pair) (first second : List ℕ)
         → IsSection pairs first → IsSection pairs second → first ≡ second }
     ensures one_list { (first second : List Pair) (bytes : List ℕ)
         → IsSection first bytes → IsSection second bytes → first ≡ second }
+    ensures its_pairs { (pairs : List Pair) (bytes : List ℕ) → IsSection pairs bytes
+        → pairs_in bytes ≡ pairs }
 {}
 
 /// Bytes break off at one place at most, and then they are no section.

@@ -46,17 +46,19 @@
 #![tactic(auto)]
 
 mod judging;
+mod known;
 mod laws;
 mod reading;
 mod writing;
 mod xattrs;
 
 pub use judging::{is_name, is_value};
+pub use known::pairs_of;
 pub use laws::{
     limits, one_broken_place, put_changes_one, remove_takes_one, section_is_read_back, size_fits,
 };
 pub use reading::read;
-pub use writing::{section_size, write};
+pub use writing::{section, section_size, write};
 pub use xattrs::{XattrFault, Xattrs, get, put, remove};
 
 #[cfg(test)]

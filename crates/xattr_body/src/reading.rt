@@ -98,7 +98,7 @@ fn add_name(alloc: Global, names: &mut BTreeSet<Bytes>, name: &[u8]) -> Result<b
 }
 
 /// Adds a pair behind the others.
-fn add_pair(
+pub fn add_pair(
     alloc: Global,
     pairs: &mut Vec<(Bytes, Bytes)>,
     name: &[u8],
@@ -154,7 +154,7 @@ fn parts_of(body: &[u8]) -> Option<(&[u8], &[u8])>
 }
 
 /// The bytes before the first 00, and those behind it.
-fn split_at_zero(bytes: &[u8]) -> Option<(&[u8], &[u8])>
+pub fn split_at_zero(bytes: &[u8]) -> Option<(&[u8], &[u8])>
     ensures { MatchOption result (HasNoZero bytes.now) (λ x. SplitAt bytes.now x.0.now x.1.now) }
 {
     for (i, byte) in bytes.iter().enumerate() {

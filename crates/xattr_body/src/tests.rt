@@ -1,5 +1,8 @@
 //! What no clause says: that the bytes of the definitions are those that are meant.
-use crate::{XattrFault, Xattrs, get, put, read, remove, write};
+use crate::{
+    SECTION_LIMIT, XattrFault, Xattrs, get, pairs_of, put, read, remove, section, section_size,
+    write,
+};
 use kv_edge::{Bytes, NoMemory};
 use std::alloc::Global;
 use std::test::Fail;
@@ -166,5 +169,44 @@ fn attributes_are_put_and_removed(rt: HostRuntime) -> Result<(), Fail> {
         (b"c", None, &[]),
     ];
     assert_eq!(rt; first_other(rt.alloc(), rows)?, None);
+    Ok(())
+}
+
+/// The number of the first row whose pairs, read without judging, have other bytes.
+fn first_unlike(alloc: Global, rows: &[(&[u8], &[u8])]) -> Result<Option<usize>, NoMemory> {
+    let mut number = 0;
+    for (bytes, wanted) in rows {
+        let xattrs = pairs_of(alloc, bytes)?;
+        if section_size(&xattrs) > SECTION_LIMIT {
+            return Ok(Some(number));
+        }
+        if section(alloc, &xattrs)?.as_slice() != *wanted {
+            return Ok(Some(number));
+        }
+        number = number.saturating_add(1);
+    }
+    Ok(None)
+}
+
+#[test]
+fn pairs_are_read_without_judging(rt: HostRuntime) -> Result<(), Fail> {
+    let rows: &[(&[u8], &[u8])] = &[
+        (b"", b""),
+        (b"\0\0\0", b""),
+        (
+            b"\0\0\0\x09\0\0\0\x05_s\x001\0",
+            b"\0\0\0\x09\0\0\0\x05_s\x001\0",
+        ),
+        (
+            b"\0\0\0\x13\0\0\0\x05_s\x001\0\0\0\0\x06b\0 2 \0",
+            b"\0\0\0\x13\0\0\0\x05_s\x001\0\0\0\0\x06b\0 2 \0",
+        ),
+        (
+            b"\0\0\0\0\0\0\0\x05_s\0-\0\0\0",
+            b"\0\0\0\x09\0\0\0\x05_s\0-\0",
+        ),
+        (b"\0\0\0\x09\0\0\0\x05_s_1_", b""),
+    ];
+    assert_eq!(rt; first_unlike(rt.alloc(), rows)?, None);
     Ok(())
 }

@@ -16,7 +16,23 @@ pub fn write(alloc: Global, xattrs: &Xattrs) -> Result<Bytes, NoMemory>
     requires { HaveSection xattrs.now }
     ensures { IfOk result (λ bytes. IsSection xattrs.now bytes) }
 {
-    let pairs = xattrs.pairs();
+    spelled(alloc, xattrs.pairs())
+}
+
+/// The bytes of attributes that a section has, where four bytes can count them. Whether they are
+/// attributes that may stand together is not asked here.
+pub fn section(alloc: Global, xattrs: &Xattrs) -> Result<Bytes, NoMemory>
+    requires { length (section_of xattrs.now) < 2 ^ 32 }
+    ensures { IfOk result (λ bytes. bytes ≡ section_of xattrs.now) }
+{
+    spelled(alloc, xattrs.pairs())
+}
+
+/// Pairs in their order behind the length of them all, and no bytes where there are none.
+fn spelled(alloc: Global, pairs: &[(Bytes, Bytes)]) -> Result<Bytes, NoMemory>
+    requires { length (pairs_bytes pairs.now) < 2 ^ 32 }
+    ensures { IfOk result (λ bytes. bytes ≡ section_of pairs.now) }
+{
     if pairs.is_empty() {
         return Ok(Bytes::new(alloc));
     }
