@@ -91,7 +91,7 @@ mod walking;
 pub use editing::{Edited, edit, edit_of};
 pub use looking::{Piece, look, look_judged, lookup_of, one_answer};
 pub use parents::put_key;
-pub use reading::judge;
+pub use reading::{judge, path_of};
 
 #[cfg(test)]
 mod edit_tests;

@@ -12,7 +12,8 @@ use json_spell::{Judgement, judge_text};
 use std::alloc::Global;
 use subdoc_path::{Path, PathFault, read_path};
 
-/// The path of these bytes.
+/// The path of these bytes: PATH_E2BIG where they are more than 1,024 or it has more than 32 parts,
+/// PATH_EINVAL where they are none.
 pub fn path_of(alloc: Global, bytes: &[u8]) -> Result<Path, Refused>
     ensures { Told (λ path. ReadsPath bytes.now (Ok path)) (λ s. ReadsPath bytes.now (Err s))
         result }

@@ -26,16 +26,17 @@ fn front_pairs(alloc: Global, bytes: &[u8]) -> Result<Vec<(Bytes, Bytes)>, NoMem
 {
     let mut pairs = Vec::new(alloc);
     let mut rest = bytes;
-    while let Some((name, value, next)) = front_pair(rest) {
+    while let Some((name, value, next)) = first_pair(rest) {
         add_pair(alloc, &mut pairs, name, value)?;
         rest = next;
     }
     Ok(pairs)
 }
 
-/// The name and the text of the pair at the front, and the bytes behind it.
+/// The name and the text of the pair at the front of bytes that are known to be pairs, and the bytes
+/// behind it; none where there is no pair. The bytes of a section stand behind its length.
 #[tactic(auto, unfolding(crate::specs::Pairs::pair_at))]
-fn front_pair(bytes: &[u8]) -> Option<(&[u8], &[u8], &[u8])>
+pub fn first_pair(bytes: &[u8]) -> Option<(&[u8], &[u8], &[u8])>
     ensures { option_map (λ x. ((x.0.now, x.1.now), x.2.now)) result ≡ pair_at bytes.now }
 {
     let (size, behind) = u32_at(bytes)?;
@@ -44,7 +45,8 @@ fn front_pair(bytes: &[u8]) -> Option<(&[u8], &[u8], &[u8])>
     Some((name, value, rest))
 }
 
-/// The name and the text that stand behind the length of a pair, each before one byte.
+/// The name and the text that stand behind the length of a pair: what is before the first 00, and
+/// what is from there to the last byte.
 fn parts_in(body: &[u8]) -> Option<(&[u8], &[u8])>
     ensures { option_map (λ x. (x.0.now, x.1.now)) result ≡ pair_in body.now }
 {

@@ -53,7 +53,7 @@ mod writing;
 mod xattrs;
 
 pub use judging::{is_name, is_value};
-pub use known::pairs_of;
+pub use known::{first_pair, pairs_of};
 pub use laws::{
     limits, one_broken_place, put_changes_one, remove_takes_one, section_is_read_back, size_fits,
 };
