@@ -88,6 +88,10 @@ pair_steps : (bytes : List ℕ) → pair_at bytes ≡ (number_at w32 bytes >>= p
 unfolding pair_at pair_sized pair_behind
 pair_steps bytes = refl
 
+-- where there is no length, there is no pair
+pub pair_none : (bytes : List ℕ) → None ≡ number_at w32 bytes → None ≡ pair_at bytes
+pair_none bytes e = sym (pair_steps bytes ∙ ap (λ o. o >>= pair_sized) (sym e))
+
 front_again : (p : Pair) (rest : List ℕ) → IsPair p → pair_at (pair_bytes p ++ rest) ≡ read p rest
 unfolding pair_sized pair_behind
 front_again p rest good =
@@ -151,10 +155,10 @@ from_enough (suc m) (suc n) bytes h k = by (pair_at bytes) refl (from_enough m n
 
 -- ---- as the loop has it
 
-no_more : (bytes : List ℕ) → None ≡ pair_at bytes → pairs_from (length bytes) bytes ≡ []
+pub no_more : (bytes : List ℕ) → None ≡ pair_at bytes → pairs_from (length bytes) bytes ≡ []
 no_more bytes e = from_none (length bytes) bytes (sym e)
 
-one_more : (bytes rest : List ℕ) (p : Pair) → read p rest ≡ pair_at bytes → pairs_from (length bytes) bytes ≡ p ∷ pairs_from (length rest) rest
+pub one_more : (bytes rest : List ℕ) (p : Pair) → read p rest ≡ pair_at bytes → pairs_from (length bytes) bytes ≡ p ∷ pairs_from (length rest) rest
 one_more bytes rest p e =
     let less : length rest < length bytes = shorter bytes rest p (sym e) in
     from_enough (length bytes) (suc (length bytes)) bytes (omega arith) (omega arith) ∙ from_some (length bytes) bytes rest p (sym e)

@@ -1,0 +1,4 @@
+pub mod Gaps
+pub mod Objects
+pub mod Steps
+pub mod Found
