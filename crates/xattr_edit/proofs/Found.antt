@@ -1,17 +1,16 @@
 -- The text that an object has at a name, found in its bytes.
-use Rattle.std.proofs.Common.{◌≡◌, ℕ, ◌-◌, List, [], ◌∷◌, take, drop, Option, Some, None, Result, Ok, Err, inl, refl, sym, ap, ◌∙◌}
+use Rattle.std.proofs.Common.{◌≡◌, ℕ, ◌-◌, List, [], ◌∷◌, take, drop, Option, Some, None, Result, Ok, inl, refl, sym, ap, ◌∙◌}
 use Rattle.doc_model.specs.declared.status.Status.{Status}
 use Rattle.json_model.specs.declared.TheConstants.{MOST_DEEP}
 use Rattle.json_model.specs.declared.asked.Part.{Part}
 use Rattle.json_model.specs.declared.asked.Part.TheVariants.{Member}
 use Rattle.json_model.specs.declared.asked.Lookup.TheVariants as lookups
-use Rattle.json_model.specs.Spelled.{Tree, Document, IsText}
+use Rattle.json_model.specs.Spelled.{Document, IsText}
 use Rattle.json_model.specs.Follow.{Outcome, reached, missing, mismatch, Follows}
 use Rattle.json_model.specs.Edit.{look_at}
 use Rattle.json_walk.specs.Telling.{tree_end}
 use Rattle.subdoc_path.specs.declared.led.Led.TheVariants as led
 use Rattle.subdoc_path.specs.Led.{TellsPlace, LeadsAt}
-use Rattle.subdoc_step.specs.Texts.{read_text}
 use Rattle.subdoc_step.specs.Paths.{followed}
 use Rattle.subdoc_step.specs.Answers.{◌>>=◌}
 use Rattle.subdoc_step.proofs.Texts.{text_only}

@@ -1,5 +1,5 @@
 -- The object of attributes, member by member.
-use Rattle.std.proofs.Common.{◌≡◌, ℕ, List, [], ◌∷◌, ◌++◌, length, Option, Some, None, refl, sym, ap, ◌∙◌, append_assoc, append-nil}
+use Rattle.std.proofs.Common.{◌≡◌, ℕ, List, [], ◌∷◌, ◌++◌, length, Some, None, sym, ap, ◌∙◌, append_assoc, append-nil}
 use Rattle.std.specs.Int.{w32}
 use Rattle.kv_edge.specs.Fields.{number_at}
 use Rattle.xattr_body.specs.Section.{Pair}

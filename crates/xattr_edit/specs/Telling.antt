@@ -1,6 +1,5 @@
 -- What is told of look-ups and edits of attributes.
 use Rattle.std.specs.Prelude.{◌≡◌, ℕ, Bool, List, Some, Result, Ok, Err}
-use Rattle.doc_model.specs.declared.status.Status.{Status}
 use Rattle.doc_model.specs.declared.status.Refused.{Refused}
 use Rattle.json_model.specs.declared.asked.Lookup.{Lookup}
 use Rattle.json_model.specs.declared.asked.Edit.{Edit}
@@ -10,7 +9,7 @@ use Rattle.subdoc_edit.specs.Looking.{IsWithin, piece_text}
 use Rattle.subdoc_edit.specs.Telling.{Told}
 use Rattle.xattr_body.specs.Section.{Pair, section_of}
 use Rattle.xattr_body.specs.Pairs.{pairs_in}
-use Rattle.xattr_step.specs.Answers.{looked_up_in, EditedPairs, edited_in}
+use Rattle.xattr_step.specs.Answers.{looked_up_in, edited_in}
 use Rattle.xattr_edit.specs.declared.editing.EditedSection.{EditedSection}
 
 -- a piece of the attributes' object is what the look-up of this opcode finds in them, or the status is its refusal

@@ -24,7 +24,19 @@ pub struct EditedSection {
     pub number: Option<i64>,
 }
 
-/// Edits the attributes of a section.
+/// Edits the attributes of a section that is known to be one: `opcode` is that of a sub-document
+/// edit, c7 to cf, and `several` lets any number of names at the end of the path be absent, and
+/// makes them. The section that is left is new; beside it a counter tells the number that it has
+/// come to.
+///
+/// It is refused with the first of these that applies, and nothing is left then:
+///
+/// - 00c3 and 00c2 where the path isn't one, 00c2 where it begins with no name that an attribute
+///   may have, 00d1 where that name begins with `$`;
+/// - the status with which `subdoc_edit::edit` refuses the edit of the attributes' object;
+/// - 0003 where the section would have more than 1,048,576 bytes.
+///
+/// Want of memory is told apart from these, at any point.
 pub fn edit(
     alloc: Global,
     opcode: u8,
@@ -68,7 +80,7 @@ fn edit_object(
     )
 }
 
-/// The flags of a path of which several parts may be absent, or one.
+/// The flags of a path: bit 01 where several parts may be absent.
 fn path_flags(several: bool) -> u8
     ensures { makes_parents result ≡ several }
 {

@@ -18,7 +18,7 @@ use subdoc_edit::{Piece, look_judged, path_of};
 ///
 /// It is refused with the first of these that applies: 00c3 and 00c2 where the path isn't one, 00c2
 /// where it begins with no name that an attribute may have, 00d1 where that name begins with `$`,
-/// and then as `subdoc_edit::look` refuses a look-up in the object.
+/// and then the status with which `subdoc_edit::look` refuses the look-up in the object.
 pub fn look(
     alloc: Global,
     opcode: u8,

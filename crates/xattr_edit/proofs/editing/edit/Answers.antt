@@ -4,9 +4,8 @@ use Rattle.std.specs.Option.{option_copied}
 use Rattle.doc_model.specs.declared.status.Refused.{Refused}
 use Rattle.json_model.specs.declared.asked.Part.{Part}
 use Rattle.json_model.specs.Paths.{ReadsPath}
-use Rattle.xattr_body.specs.Section.{Pair}
 use Rattle.xattr_body.specs.Pairs.{pairs_in}
-use Rattle.xattr_step.specs.Answers.{attribute_of, read_attribute, text_at}
+use Rattle.xattr_step.specs.Answers.{attribute_of}
 use Rattle.xattr_edit.specs.declared.editing.EditedSection.{EditedSection}
 use Rattle.xattr_edit.specs.Telling.{EditsIn}
 use Rattle.xattr_edit.proofs.Steps.{name_read, edit_path, edit_name, edit_not_made, edit_made, begins, left_is}
