@@ -28,7 +28,7 @@ pub const GREATEST_LEVEL: u8 = 3;
 pub const SPELT_KEY_LIMIT: u8 = 251;
 
 /// How many bytes a document's extended attributes have at most.
-pub const SECTION_LIMIT: usize = 1_048_576;
+pub const SECTION_LIMIT: usize = xattr_body::SECTION_LIMIT;
 
 /// The limits are these numbers.
 pub fn log_numbers()
