@@ -1,2 +1,6 @@
 mod Answered
+mod Beginning
 mod Counting
+mod Editing
+mod Looking
+mod Storing

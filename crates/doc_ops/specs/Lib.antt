@@ -1,3 +1,4 @@
 pub mod Digits
 pub mod Planning
-pub mod Parts
+pub mod Looks
+pub mod Edits

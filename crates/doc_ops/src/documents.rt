@@ -2,7 +2,8 @@
 
 ghost use Rattle.std.specs.Prelude.{◌≡◌, ◌+◌, ◌++◌, ◌≤◌, length, IfOk};
 ghost use Rattle.std.specs.Option.{option_copied};
-ghost use Rattle.doc_step.specs.Step.{json_of, kept_xattrs, with_value, stored_doc, new_counter, joined_value, touched_doc};
+ghost use Rattle.doc_step.specs.Replies.{json_of, with_value};
+ghost use Rattle.doc_step.specs.Step.{kept_xattrs, stored_doc, new_counter, joined_value, touched_doc};
 ghost use Rattle.doc_ops.specs.Planning.{setting_of};
 
 use crate::counter::decimal;
@@ -137,7 +138,7 @@ fn kept_xattrs(alloc: Global, doc: Option<&Doc>) -> Result<Bytes, NoMemory>
 }
 
 /// Whether a value is JSON text at most 32 deep. It takes no memory, and time as the value has bytes.
-fn json_of(value: &[u8]) -> bool
+pub(crate) fn json_of(value: &[u8]) -> bool
     ensures { result ≡ json_of value.now }
 {
     is_json(value)

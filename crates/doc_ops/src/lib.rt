@@ -9,8 +9,9 @@
 
 mod counter;
 mod documents;
+mod edits;
 mod expiry;
-mod parts;
+mod looks;
 mod planning;
 mod replies;
 

@@ -1,14 +1,17 @@
 //! What each operation does to the document that is there.
 
-ghost use Rattle.std.specs.Prelude.{◌≡◌, ◌+◌, true, not, nat_lt, None, Some, IfOk};
+ghost use Rattle.std.specs.Prelude.{◌≡◌, ◌≤◌, ◌+◌, length, true, not, nat_lt, None, Some, IfOk};
 ghost use Rattle.std.specs.Option.{option_copied};
-ghost use Rattle.doc_step.specs.Step.{cas_refusal, get_step, delete_step, count_step, join_step, touched_reply, touch_step, operation, document_step, Plans};
+ghost use Rattle.kv_request.specs.declared.multi.TheConstants.{MOST_SPECS};
+ghost use Rattle.kv_request.specs.Tables.{specs_brought};
+ghost use Rattle.doc_step.specs.Step.{cas_refusal, get_step, stored_doc, store_step, delete_step, count_step, join_step, touched_reply, touch_step, operation, document_step, Plans};
 ghost use Rattle.doc_ops.specs.Planning.{setting_of, mode_refusal};
 
 use crate::counter::{decimal, moved, number_of};
 use crate::documents::{joined_value, new_counter, stored_doc, touched_doc, with_value};
+use crate::edits::{edit_at, edit_each};
 use crate::expiry::{Setting, there};
-use crate::parts::{edit_at, look_at};
+use crate::looks::{look_at, look_at_each};
 use crate::replies::{carrying, changing, storing};
 use doc_model::{Doc, DocKey, Refused, Status};
 use doc_step::{Change, Effect, NO_INITIAL};
@@ -42,6 +45,7 @@ pub fn plan(
     now: u64,
     draw: u64,
 ) -> Result<Change, Refused>
+    requires { length (specs_brought request.now.body) ≤ MOST_SPECS }
     ensures { Plans (document_step (record { max_ttl = max_ttl; now = now; draw = draw }) request.now (option_copied doc.entry)) result }
 {
     let doc = there(now, doc);
@@ -73,6 +77,7 @@ fn plan_operation(
     request: &Request,
     doc: Option<&Doc>,
 ) -> Result<Change, Refused>
+    requires { length (specs_brought request.now.body) ≤ MOST_SPECS }
     ensures { Plans (operation (setting_of setting) request.now request.now.body (option_copied doc.entry)) result }
 {
     match &request.body {
@@ -91,13 +96,7 @@ fn plan_operation(
             expiry,
             value,
             ..
-        } => {
-            if let Some(status) = mode_refusal(*mode, doc) {
-                return Err(Refused::Status(status));
-            }
-            let stored = stored_doc(alloc, setting, *flags, *expiry, value, doc)?;
-            Ok(storing(alloc, request, stored, Bytes::new(alloc)))
-        }
+        } => store(alloc, setting, request, *mode, *flags, *expiry, value, doc),
         Body::Delete { .. } => delete(alloc, setting, request, doc),
         Body::Count {
             up,
@@ -105,10 +104,7 @@ fn plan_operation(
             initial,
             expiry,
             ..
-        } => match doc {
-            None => begin_count(alloc, setting, request, *initial, *expiry),
-            Some(doc) => count(alloc, setting, request, *up, *delta, doc),
-        },
+        } => count(alloc, setting, request, *up, *delta, *initial, *expiry, doc),
         Body::Join { front, value, .. } => join(alloc, setting, request, *front, value, doc),
         Body::Touch { key, expiry, fetch } => {
             touch(alloc, setting, request, key, *expiry, *fetch, doc)
@@ -120,6 +116,16 @@ fn plan_operation(
             doc_flags,
             ..
         } => edit_at(alloc, setting, request, spec, *expiry, *doc_flags, doc),
+        Body::MultiLook { specs, .. } => look_at_each(alloc, request, specs.as_slice(), doc),
+        Body::MultiEdit {
+            specs,
+            expiry,
+            doc_flags,
+            ..
+        } => {
+            let specs = specs.as_slice();
+            edit_each(alloc, setting, request, specs, *expiry, *doc_flags, doc)
+        }
     }
 }
 
@@ -134,6 +140,26 @@ fn get(alloc: Global, request: &Request, key: &DocKey, doc: Option<&Doc>) -> Res
             reply: carrying(alloc, request, key, doc)?,
         }),
     }
+}
+
+/// A document that takes the place of what is there, where the mode allows it.
+fn store(
+    alloc: Global,
+    setting: Setting,
+    request: &Request,
+    mode: Mode,
+    flags: u32,
+    expiry: u32,
+    value: &Bytes,
+    doc: Option<&Doc>,
+) -> Result<Change, Refused>
+    ensures { Plans (store_step (setting_of setting) request.now mode (option_copied doc.entry) (stored_doc (setting_of setting) flags expiry value.now (option_copied doc.entry))) result }
+{
+    if let Some(status) = mode_refusal(mode, doc) {
+        return Err(Refused::Status(status));
+    }
+    let stored = stored_doc(alloc, setting, flags, expiry, value, doc)?;
+    Ok(storing(alloc, request, stored, Bytes::new(alloc)))
 }
 
 /// Why a store of this mode is refused, where it is.
@@ -165,6 +191,25 @@ fn delete(
     }
 }
 
+/// A number counted up or down, or begun where none is there.
+fn count(
+    alloc: Global,
+    setting: Setting,
+    request: &Request,
+    up: bool,
+    delta: u64,
+    initial: u64,
+    expiry: u32,
+    doc: Option<&Doc>,
+) -> Result<Change, Refused>
+    ensures { Plans (count_step (setting_of setting) request.now up delta initial expiry (option_copied doc.entry)) result }
+{
+    match doc {
+        None => begin_count(alloc, setting, request, initial, expiry),
+        Some(doc) => go_on_counting(alloc, setting, request, up, delta, doc),
+    }
+}
+
 /// A counter's first number, where none is there and the expiry doesn't say to leave it so. Which
 /// way it counts, and how far, is then of no account.
 fn begin_count(
@@ -186,7 +231,7 @@ fn begin_count(
 
 /// The number of a document that is there, counted up or down. The initial value and its expiry are
 /// then of no account.
-fn count(
+fn go_on_counting(
     alloc: Global,
     setting: Setting,
     request: &Request,

@@ -1,7 +1,8 @@
 //! The replies to requests that were done.
 
 ghost use Rattle.std.specs.Prelude.{◌≡◌, IfOk, Ok};
-ghost use Rattle.doc_step.specs.Step.{told_key, carrying, changing, storing};
+ghost use Rattle.doc_step.specs.Replies.{told_key, carrying, changing, storing};
+ghost use Rattle.doc_step.specs.Parts.{part_failed};
 
 use doc_model::{Doc, DocKey, Status};
 use doc_step::{Change, Effect};
@@ -50,6 +51,15 @@ pub(crate) fn changing(alloc: Global, request: &Request, cas: u64, value: Bytes)
         key: None,
         value,
     }
+}
+
+/// The reply to a request of which a part failed, with what it tells of its parts.
+pub(crate) fn part_failed(alloc: Global, request: &Request, value: Bytes) -> Reply
+    ensures { result ≡ part_failed request.now value }
+{
+    let mut reply = changing(alloc, request, 0, value);
+    reply.status = Status::MULTI_PATH_FAILURE;
+    reply
 }
 
 /// The change that stores a document, and whose reply has this value.

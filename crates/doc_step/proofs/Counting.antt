@@ -16,7 +16,8 @@ use Rattle.doc_step.specs.declared.TheConstants.{DIGITS_LIMIT}
 use Rattle.doc_step.specs.declared.Effect.TheVariants as effects
 use Rattle.doc_step.specs.Expiry.{Setting, there, is_expired}
 use Rattle.doc_step.specs.Counter.{is_digit, is_number, number_of, moved}
-use Rattle.doc_step.specs.Step.{with_value, document_step}
+use Rattle.doc_step.specs.Replies.{with_value}
+use Rattle.doc_step.specs.Step.{document_step}
 use Rattle.doc_step.specs.Laws.{effect_of}
 
 -- ---- numbers as texts

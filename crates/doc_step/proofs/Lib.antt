@@ -1,4 +1,6 @@
 pub mod Counting
 pub mod Small
 pub mod Drawn
-pub mod Kept
+pub mod Alone
+pub mod Edits
+pub mod Among

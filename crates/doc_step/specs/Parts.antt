@@ -1,5 +1,5 @@
 -- Look-ups and edits of parts of a document: of its value, and of its extended attributes.
-use Rattle.std.specs.Prelude.{ℕ, suc, nat_eq, nat_lt, Bool, not, ◌||◌, unwrap_or, List, [], ◌∷◌, ◌++◌, length, find, is_ok, codes, Option, None, Some, Result, Ok, Err, ℤ, if◌then◌else◌}
+use Rattle.std.specs.Prelude.{ℕ, suc, nat_eq, nat_lt, Bool, true, not, ◌||◌, unwrap_or, List, [], ◌∷◌, ◌++◌, length, find, is_ok, codes, Option, None, Some, Result, Ok, Err, ℤ, if◌then◌else◌}
 use Rattle.std.specs.List.{flat_map, list_all}
 use Rattle.std.specs.Option.{option_map_or}
 use Rattle.std.specs.Int.{w16, w32, to_be_bytes}
@@ -158,23 +158,23 @@ edit_result place (Some number) =
 
 -- What edits come to, each made of what those before it left: the last document with the results, or the place, from 0 on, and
 -- the status of the first that is refused.
-pub data Edits : Type 0 where
-  all_made : Doc → List ℕ → Edits
-  refused_at : ℕ → Status → Edits
+pub data Folded : Type 0 where
+  all_made : Doc → List ℕ → Folded
+  refused_at : ℕ → Status → Folded
 
 -- one more edit, and then the others
-abbrev pub and_then : ℕ → List ℕ → Result EditedDoc Status → (Doc → List ℕ → Edits) → Edits
+abbrev pub and_then : ℕ → List ℕ → Result EditedDoc Status → (Doc → List ℕ → Folded) → Folded
 and_then place results (Ok made) rest = rest made.doc (results ++ edit_result place made.number)
 and_then place results (Err refusing) rest = refused_at place refusing
 
 -- edits from this place on, where those before it left this document and these results
-unfoldable pub edits_from : ℕ → ℕ → Doc → List ℕ → List Spec → Edits
+unfoldable pub edits_from : ℕ → ℕ → Doc → List ℕ → List Spec → Folded
 edits_from flags place doc results [] = all_made doc results
 edits_from flags place doc results (spec ∷ specs) =
     and_then place results (edited_doc spec flags doc) (λ made told. edits_from flags (suc place) made told specs)
 
 -- the last document is stored; where an edit is refused nothing is, and the reply has its place and its status
-abbrev pub edits_answered : Setting → Request → Edits → Result Change Status
+abbrev pub edits_answered : Setting → Request → Folded → Result Change Status
 edits_answered s request (all_made doc results) = storing request (changed s doc) results
 edits_answered s request (refused_at place refusing) =
     Ok (record { effect = effects.Nothing; reply = part_failed request (place ∷ to_be_bytes w16 refusing.code) })

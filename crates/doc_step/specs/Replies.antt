@@ -1,5 +1,5 @@
 -- What is stored, and what is replied: the pieces that the operations share.
-use Rattle.std.specs.Prelude.{ℕ, Bool, List, [], Option, Some, None, Result, Ok, if◌then◌else◌}
+use Rattle.std.specs.Prelude.{ℕ, Bool, false, List, [], Option, Some, None, Result, Ok, if◌then◌else◌}
 use Rattle.std.specs.Option.{option_map_or}
 use Rattle.doc_model.specs.declared.key.DocKey.{DocKey}
 use Rattle.doc_model.specs.declared.document.Doc.{Doc}
@@ -23,7 +23,7 @@ changed s doc = record doc { cas = s.draw; seqno = 0; json = json_of doc.value }
 
 -- a document that is there with another value
 abbrev pub with_value : Setting → Doc → List ℕ → Doc
-with_value s doc value = record doc { value = value; cas = s.draw; seqno = 0; json = json_of value }
+with_value s doc value = changed s (record doc { value = value })
 
 -- the key that a reply tells, where its opcode asks for that
 abbrev pub told_key : ℕ → DocKey → Option DocKey
@@ -62,4 +62,3 @@ carrying request key doc = record {
 -- a document is stored, and the reply has this value
 abbrev pub storing : Request → Doc → List ℕ → Result Change Status
 storing request doc value = Ok (record { effect = effects.Put doc; reply = changing request doc.cas value })
-

@@ -21,7 +21,7 @@ use Rattle.doc_step.specs.declared.Effect.TheVariants as effects
 use Rattle.doc_step.specs.declared.Change.{Change}
 use Rattle.doc_step.specs.Expiry.{Setting, there, expiry_of}
 use Rattle.doc_step.specs.Counter.{number_of, moved}
-use Rattle.doc_step.specs.Replies.{json_of, with_value, changing, carrying, storing}
+use Rattle.doc_step.specs.Replies.{json_of, changed, with_value, changing, carrying, storing}
 use Rattle.doc_step.specs.Parts.{look_step, edit_step, multi_look_step, multi_edit_step}
 
 -- why a request with this CAS is refused where this document is there: its CAS isn't 0, and none is there or it has
@@ -81,7 +81,7 @@ join_step s request front value (Some doc) =
 
 -- a document that is there with another expiry
 abbrev pub touched_doc : Setting → Doc → ℕ → Doc
-touched_doc s doc expiry = record doc { expiry = expiry_of s expiry; cas = s.draw; seqno = 0; json = json_of doc.value }
+touched_doc s doc expiry = changed s (record doc { expiry = expiry_of s expiry })
 
 -- the reply to a Touch, which carries the document where it is asked for
 abbrev pub touched_reply : Bool → Request → DocKey → Doc → Reply

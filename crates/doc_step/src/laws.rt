@@ -6,7 +6,6 @@ ghost use Rattle.doc_model.specs.declared.key.DocKey.{DocKey};
 ghost use Rattle.doc_model.specs.declared.document.Doc.{Doc};
 ghost use Rattle.doc_model.specs.declared.status.TheConstants.Status as status;
 ghost use Rattle.kv_request.specs.declared.request.Request.{Request};
-ghost use Rattle.kv_request.specs.declared.request.Spec.{Spec};
 ghost use Rattle.kv_request.specs.declared.request.Body.TheVariants as bodies;
 ghost use Rattle.kv_request.specs.declared.request.Mode.TheVariants as modes;
 ghost use Rattle.kv_request.specs.Tables.{IsSmallRequest};
@@ -78,26 +77,6 @@ pub fn touching_keeps_the_value()
         request.body ≡ bodies.Touch key expiry fetch → effect_of (document_step s request doc) ≡ effects.Put made →
         (found : Doc) × (there s.now doc ≡ Some found)
         × (made.value ≡ found.value) × (made.flags ≡ found.flags) × (made.xattrs ≡ found.xattrs) }
-{}
-
-/// A look at a part of a document changes nothing.
-pub fn looking_changes_nothing()
-    ensures { (s : Setting) (request : Request) (doc : Option Doc) (key : DocKey) (spec : Spec) →
-        request.body ≡ bodies.Look key spec → effect_of (document_step s request doc) ≡ effects.Nothing }
-{}
-
-/// An edit of a part of a document leaves flags and extended attributes, and the expiry where the request gives none.
-pub fn editing_keeps_the_rest()
-    ensures { (s : Setting) (request : Request) (doc found made : Doc) (key : DocKey) (spec : Spec) (expiry : Option ℕ) (flags : ℕ) →
-        request.body ≡ bodies.Edit key spec expiry flags → there s.now (Some doc) ≡ Some found →
-        effect_of (document_step s request (Some doc)) ≡ effects.Put made →
-        (made.flags ≡ found.flags) × (made.xattrs ≡ found.xattrs) × (expiry ≡ None → made.expiry ≡ found.expiry) }
-{}
-
-/// An edit asks for a document that is there: without a flag of its own it makes none.
-pub fn edits_make_no_documents_unasked()
-    ensures { (s : Setting) (request : Request) (key : DocKey) (spec : Spec) (expiry : Option ℕ) →
-        request.body ≡ bodies.Edit key spec expiry 0 → effect_of (document_step s request None) ≡ effects.Nothing }
 {}
 
 /// Where a reply can carry the document that is there, the reply has a frame, and a reply can carry what is stored. An

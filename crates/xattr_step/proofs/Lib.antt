@@ -5,3 +5,4 @@ pub mod Kept
 pub mod Texts
 pub mod Sections
 pub mod Upserted
+pub mod Sizes
