@@ -31,7 +31,9 @@ use Rattle.doc_step.specs.declared.Effect.TheVariants as effects
 use Rattle.doc_step.specs.declared.Change.{Change}
 use Rattle.doc_step.specs.Expiry.{Setting, there}
 use Rattle.doc_step.specs.Counter.{number_of, moved}
-use Rattle.doc_step.specs.Step.{cas_refusal, storing, with_value, get_step, stored_doc, store_step, delete_step, new_counter, count_step, joined_value, join_step, touch_step, look_answered, look_step, edit_answered, makes_several, doc_to_edit, edit_made, edit_step, operation, document_step}
+use Rattle.doc_step.specs.Step.{document_step}
+use Rattle.doc_step.specs.Laws.{CarriesDraw}
+use Rattle.doc_step.proofs.Drawn.{carries}
 use Rattle.manifest_rules.specs.Catalog.{max_ttl_of}
 use Rattle.vb_core.specs.Log.{Content, with_entries, doc_of}
 use Rattle.vb_core.specs.Step.{drawn, entries_of, changes, with_token, concluded, setting_at, document_request}
@@ -44,92 +46,13 @@ StoresDraw draw effects.Nothing = Unit {0}
 StoresDraw draw (effects.Put doc) = doc.cas ≡ draw
 StoresDraw draw effects.Remove = Unit {0}
 
-abbrev ResultStores : ℕ → Result Change Status → Type 0
-ResultStores draw (Ok change) = StoresDraw draw change.effect
-ResultStores draw (Err refusing) = Unit {0}
-
-unless_refused : (draw : ℕ) (refusing : Option Status) (r : Result Change Status) → ResultStores draw r → ResultStores draw (option_map_or {U = Result Change Status} (λ s. Err s) refusing r)
-unless_refused draw None r h = h
-unless_refused draw (Some s) r h = tt
-
-either : (draw : ℕ) (b : Bool) (refusing : Status) (r : Result Change Status) → ResultStores draw r → ResultStores draw (if b then Err refusing else r)
-either draw true refusing r h = tt
-either draw false refusing r h = h
-
-get_stores : (draw : ℕ) (request : Request) (key : DocKey) (doc : Option Doc) → ResultStores draw (get_step request key doc)
-get_stores draw request key None = tt
-get_stores draw request key (Some doc) = tt
-
-store_stores : (s : Setting) (request : Request) (mode : Mode) (doc : Option Doc) (stored : Doc) → stored.cas ≡ s.draw → ResultStores s.draw (store_step s request mode doc stored)
-store_stores s request modes.Set doc stored e = e
-store_stores s request modes.Add None stored e = e
-store_stores s request modes.Add (Some doc) stored e = tt
-store_stores s request modes.Replace None stored e = tt
-store_stores s request modes.Replace (Some doc) stored e = e
-
-delete_stores : (s : Setting) (request : Request) (doc : Option Doc) → ResultStores s.draw (delete_step s request doc)
-delete_stores s request None = tt
-delete_stores s request (Some doc) = tt
-
-counted_stores : (s : Setting) (request : Request) (up : Bool) (delta : ℕ) (doc : Doc) (number : Option ℕ) → ResultStores s.draw (option_map_or {U = Result Change Status} (λ n. storing request (with_value s doc (decimal (moved up n delta))) (to_be_bytes w64 (moved up n delta))) number (Err status.DELTA_BADVAL))
-counted_stores s request up delta doc None = tt
-counted_stores s request up delta doc (Some n) = refl
-
-count_stores : (s : Setting) (request : Request) (up : Bool) (delta initial expiry : ℕ) (doc : Option Doc) → ResultStores s.draw (count_step s request up delta initial expiry doc)
-count_stores s request up delta initial expiry None = either s.draw (nat_eq expiry NO_INITIAL) status.KEY_ENOENT (storing request (new_counter s initial expiry) (to_be_bytes w64 initial)) refl
-count_stores s request up delta initial expiry (Some doc) = counted_stores s request up delta doc (number_of doc.value)
-
-join_stores : (s : Setting) (request : Request) (front : Bool) (value : List ℕ) (doc : Option Doc) → ResultStores s.draw (join_step s request front value doc)
-join_stores s request front value None = tt
-join_stores s request front value (Some doc) = either s.draw (nat_lt VALUE_LIMIT (length doc.value + length value)) status.E2BIG (storing request (with_value s doc (joined_value front doc.value value)) []) refl
-
-touch_stores : (s : Setting) (request : Request) (key : DocKey) (expiry : ℕ) (fetch : Bool) (doc : Option Doc) → ResultStores s.draw (touch_step s request key expiry fetch doc)
-touch_stores s request key expiry fetch None = tt
-touch_stores s request key expiry fetch (Some doc) = refl
-
-looked_stores : (s : Setting) (request : Request) (doc : Doc) (found : Result (List ℕ) Status) → ResultStores s.draw (look_answered request doc found)
-looked_stores s request doc (Ok piece) = tt
-looked_stores s request doc (Err refusing) = tt
-
-look_stores : (s : Setting) (request : Request) (spec : Spec) (doc : Option Doc) (lookup : Option Lookup) → ResultStores s.draw (option_map_or {U = Result Change Status} (look_step request spec doc) lookup (Err status.UNKNOWN_COMMAND))
-look_stores s request spec doc None = tt
-look_stores s request spec None (Some lookup) = tt
-look_stores s request spec (Some doc) (Some lookup) = looked_stores s request doc (looked_up lookup doc.value spec.path)
-
-edited_stores : (s : Setting) (request : Request) (doc : Doc) (made : Result EditedText Status) → ResultStores s.draw (edit_answered s request doc made)
-edited_stores s request doc (Ok made) = refl
-edited_stores s request doc (Err refusing) = tt
-
-made_stores : (s : Setting) (request : Request) (spec : Spec) (several : Bool) (edit : Edit) (doc : Result Doc Status) → ResultStores s.draw (edit_made s request spec several edit doc)
-made_stores s request spec several edit (Ok doc) = edited_stores s request doc (edited edit several doc.value spec.path spec.value)
-made_stores s request spec several edit (Err refusing) = tt
-
-edit_stores : (s : Setting) (request : Request) (spec : Spec) (expiry : Option ℕ) (flags : ℕ) (doc : Option Doc) (edit : Option Edit) → ResultStores s.draw (option_map_or {U = Result Change Status} (edit_step s request spec expiry flags doc) edit (Err status.UNKNOWN_COMMAND))
-edit_stores s request spec expiry flags doc None = tt
-edit_stores s request spec expiry flags doc (Some edit) = made_stores s request spec (makes_several spec flags) edit (doc_to_edit s expiry flags spec.path doc)
-
-operation_stores : (s : Setting) (request : Request) (body : Body) (doc : Option Doc) → ResultStores s.draw (operation s request body doc)
-operation_stores s request (bodies.Hello wanted) doc = tt
-operation_stores s request bodies.Noop doc = tt
-operation_stores s request bodies.Version doc = tt
-operation_stores s request bodies.Quit doc = tt
-operation_stores s request (bodies.SetManifest text) doc = tt
-operation_stores s request bodies.GetManifest doc = tt
-operation_stores s request (bodies.CollectionId path) doc = tt
-operation_stores s request (bodies.ScopeId path) doc = tt
-operation_stores s request (bodies.Get key) doc = get_stores s.draw request key doc
-operation_stores s request (bodies.Store key mode flags expiry value) doc = store_stores s request mode doc (stored_doc s flags expiry value doc) refl
-operation_stores s request (bodies.Delete key) doc = delete_stores s request doc
-operation_stores s request (bodies.Count key up delta initial expiry) doc = count_stores s request up delta initial expiry doc
-operation_stores s request (bodies.Join key front value) doc = join_stores s request front value doc
-operation_stores s request (bodies.Touch key expiry fetch) doc = touch_stores s request key expiry fetch doc
-operation_stores s request (bodies.Look key spec) doc = look_stores s request spec doc (lookup_of spec.opcode)
-operation_stores s request (bodies.Edit key spec expiry flags) doc = edit_stores s request spec expiry flags doc (edit_of spec.opcode)
+stores : (draw : ℕ) (change : Change) (effect : Effect) → CarriesDraw draw change effect → StoresDraw draw effect
+stores draw change effects.Nothing h = tt
+stores draw change (effects.Put doc) h = h.0
+stores draw change effects.Remove h = tt
 
 step_stores : (s : Setting) (request : Request) (doc : Option Doc) (change : Change) → document_step s request doc ≡ Ok change → StoresDraw s.draw change.effect
-step_stores s request doc change e =
-    let P : Result Change Status → Type 0 = λ r. ResultStores s.draw r in
-    subst P e (unless_refused s.draw (cas_refusal request.cas (there s.now doc)) (operation s request request.body (there s.now doc)) (operation_stores s request request.body (there s.now doc)))
+step_stores s request doc change e = stores s.draw change change.effect (carries s request doc change e)
 
 -- ---- a change that is planned
 

@@ -1,5 +1,5 @@
 -- What requests leave of a document, over whole runs.
-use Rattle.std.specs.Prelude.{◌≡◌, ◌≢◌, ℕ, ◌+◌, ◌≤◌, Bool, true, false, ◌&&◌, nat_eq, is_some, IsSome, List, [], ◌∷◌, Option, Some, None, Result, Ok, Err, if◌then◌else◌, refl}
+use Rattle.std.specs.Prelude.{◌≡◌, ◌≢◌, ℕ, ◌+◌, ◌≤◌, Bool, true, false, ◌&&◌, nat_eq, nat_lt, is_some, IsSome, List, [], ◌∷◌, length, Option, Some, None, Result, Ok, Err, if◌then◌else◌, refl}
 use Rattle.std.specs.Option.{option_map_or}
 use Rattle.std.specs.List.{AllByRecursion}
 use Rattle.std.specs.FinMap as map
@@ -10,11 +10,7 @@ use Rattle.doc_model.specs.declared.document.Doc.{Doc}
 use Rattle.doc_model.specs.declared.document.What.TheVariants as whats
 use Rattle.doc_model.specs.declared.status.Status.{Status}
 use Rattle.doc_model.specs.declared.status.TheConstants.Status as status
-use Rattle.json_model.specs.declared.asked.Lookup.{Lookup}
-use Rattle.json_model.specs.declared.asked.Edit.{Edit}
-use Rattle.json_model.specs.Edit.{lookup_of, edit_of}
-use Rattle.json_model.specs.Order.{EditedText}
-use Rattle.subdoc_step.specs.Answers.{looked_up, edited}
+use Rattle.kv_request.specs.declared.reading.TheConstants.{VALUE_LIMIT}
 use Rattle.kv_request.specs.declared.request.Spec.{Spec}
 use Rattle.kv_request.specs.declared.request.Request.{Request}
 use Rattle.kv_request.specs.declared.request.Durability.{Durability}
@@ -28,7 +24,9 @@ use Rattle.doc_step.specs.declared.Effect.{Effect}
 use Rattle.doc_step.specs.declared.Effect.TheVariants as effects
 use Rattle.doc_step.specs.declared.Change.{Change}
 use Rattle.doc_step.specs.Expiry.{Setting, expiry_of, is_expired, there}
-use Rattle.doc_step.specs.Step.{cas_refusal, carrying, stored_doc, get_step, delete_step, look_answered, look_step, operation, tells_token}
+use Rattle.doc_step.specs.Replies.{carrying}
+use Rattle.doc_step.specs.Parts.{found_in, look_answered, look_step, look_results, looks_reply, multi_look_step}
+use Rattle.doc_step.specs.Step.{cas_refusal, stored_doc, get_step, delete_step, operation, tells_token}
 use Rattle.vb_core.specs.declared.vb.TheConstants.{VBUCKET}
 use Rattle.vb_core.specs.Log.{Entry, Content, with_entries, doc_of}
 use Rattle.vb_core.specs.Step.{Copy, drawn, entries_of, concluded, has_collection, early_refusal, setting_at, document_request, served, body_step, request_step, seen_with, moment_of, after, answered}
@@ -133,12 +131,21 @@ looked_spares : (content : Content) (request : Request) (key : DocKey) (doc : Do
 looked_spares content request key doc cas (Ok piece) = no_entries content key
 looked_spares content request key doc cas (Err s) = no_entries content key
 
-look_spares : (content : Content) (request : Request) (key : DocKey) (spec : Spec) (doc : Option Doc) (cas : ℕ) (lookup : Option Lookup) (refusing : Option Status)
-    → Spares content key (concluded content request cas (option_map_or {U = Result Change Status} (λ s. Err s) refusing (option_map_or {U = Result Change Status} (look_step request spec doc) lookup (Err status.UNKNOWN_COMMAND)))).0
-look_spares content request key spec doc cas lookup (Some s) = no_entries content key
-look_spares content request key spec doc cas None None = no_entries content key
-look_spares content request key spec None cas (Some lookup) None = no_entries content key
-look_spares content request key spec (Some doc) cas (Some lookup) None = looked_spares content request key doc cas (looked_up lookup doc.value spec.path)
+look_spares : (content : Content) (request : Request) (key : DocKey) (spec : Spec) (doc : Option Doc) (cas : ℕ) (refusing : Option Status)
+    → Spares content key (concluded content request cas (option_map_or {U = Result Change Status} (λ s. Err s) refusing (look_step request spec doc))).0
+look_spares content request key spec doc cas (Some s) = no_entries content key
+look_spares content request key spec None cas None = no_entries content key
+look_spares content request key spec (Some doc) cas None = looked_spares content request key doc cas (found_in doc spec)
+
+looks_spare : (content : Content) (request : Request) (key : DocKey) (cas : ℕ) (b : Bool) (reply : Reply) → Spares content key (concluded content request cas (if b then Err status.E2BIG else Ok (record { effect = effects.Nothing; reply = reply }))).0
+looks_spare content request key cas true reply = no_entries content key
+looks_spare content request key cas false reply = no_entries content key
+
+multi_look_spares : (content : Content) (request : Request) (key : DocKey) (specs : List Spec) (doc : Option Doc) (cas : ℕ) (refusing : Option Status)
+    → Spares content key (concluded content request cas (option_map_or {U = Result Change Status} (λ s. Err s) refusing (multi_look_step request specs doc))).0
+multi_look_spares content request key specs doc cas (Some s) = no_entries content key
+multi_look_spares content request key specs None cas None = no_entries content key
+multi_look_spares content request key specs (Some doc) cas None = looks_spare content request key cas (nat_lt VALUE_LIMIT (length (look_results doc specs))) (looks_reply request doc specs)
 
 -- and neither has what asks nothing of documents
 none_spares : (content : Content) (request : Request) (key : DocKey) (cas : ℕ) (refusing : Option Status) → Spares content key (concluded content request cas (option_map_or {U = Result Change Status} (λ s. Err s) refusing (Err status.UNKNOWN_COMMAND))).0
@@ -160,8 +167,10 @@ document_spares content s request key (bodies.Delete other) doc cas e h = conclu
 document_spares content s request key (bodies.Count other up delta initial expiry) doc cas e h = concluded_spares content request key cas _ (λ same. h (sym (same ∙ ap document_key e)))
 document_spares content s request key (bodies.Join other front value) doc cas e h = concluded_spares content request key cas _ (λ same. h (sym (same ∙ ap document_key e)))
 document_spares content s request key (bodies.Touch other expiry fetch) doc cas e h = concluded_spares content request key cas _ (λ same. h (sym (same ∙ ap document_key e)))
-document_spares content s request key (bodies.Look other spec) doc cas e h = look_spares content request key spec doc cas (lookup_of spec.opcode) (cas_refusal request.cas doc)
+document_spares content s request key (bodies.Look other spec) doc cas e h = look_spares content request key spec doc cas (cas_refusal request.cas doc)
 document_spares content s request key (bodies.Edit other spec expiry flags) doc cas e h = concluded_spares content request key cas _ (λ same. h (sym (same ∙ ap document_key e)))
+document_spares content s request key (bodies.MultiLook other specs) doc cas e h = multi_look_spares content request key specs doc cas (cas_refusal request.cas doc)
+document_spares content s request key (bodies.MultiEdit other specs expiry flags) doc cas e h = concluded_spares content request key cas _ (λ same. h (sym (same ∙ ap document_key e)))
 
 -- a request on a document, or one that asks nothing of a vbucket
 other_spares : (content : Content) (seen now : ℕ) (request : Request) (key : DocKey) → LeavesBody key request.body → Spares content key (served content seen now request).0

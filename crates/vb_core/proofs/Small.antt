@@ -94,7 +94,7 @@ left_small before left dropped changed is all = let P : map.FinMap key_cmp What 
 -- small documents with a small effect are small
 with_small : (documents : map.FinMap key_cmp What) (key : DocKey) (effect : Effect) (cas position : ℕ) → AreSmall documents → IsSmallEffect effect → AreSmall (documents_with documents key effect cas position)
 with_small documents key effects.Nothing cas position all h = all
-with_small documents key (effects.Put doc) cas position all h = given_small documents key (record doc { seqno = position }) all (record { value = h.value; cas = h.cas })
+with_small documents key (effects.Put doc) cas position all h = given_small documents key (record doc { seqno = position }) all (record { value = h.value; xattrs = h.xattrs; cas = h.cas })
 with_small documents key effects.Remove cas position all h = deleted_small documents key cas all
 
 -- ---- a change of small documents

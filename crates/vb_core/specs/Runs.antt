@@ -77,6 +77,8 @@ LeavesBody key (bodies.Join other front value) = other ≢ key
 LeavesBody key (bodies.Touch other expiry fetch) = other ≢ key
 LeavesBody key (bodies.Look other spec) = Unit {0}
 LeavesBody key (bodies.Edit other spec expiry flags) = other ≢ key
+LeavesBody key (bodies.MultiLook other specs) = Unit {0}
+LeavesBody key (bodies.MultiEdit other specs expiry flags) = other ≢ key
 
 abbrev pub Leaves : DocKey → Event → Type 0
 Leaves key e = LeavesBody key e.request.body

@@ -80,6 +80,7 @@ pub(crate) fn name_of(body: &Body) -> Option<&DocKey>
         Body::Join { key, .. } => Some(key),
         Body::Touch { key, .. } => Some(key),
         Body::Look { key, .. } | Body::Edit { key, .. } => Some(key),
+        Body::MultiLook { key, .. } | Body::MultiEdit { key, .. } => Some(key),
     }
 }
 

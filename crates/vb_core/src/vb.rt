@@ -203,6 +203,7 @@ impl Vb {
             Body::Get { .. } | Body::Store { .. } | Body::Delete { .. } => unreachable!(),
             Body::Count { .. } | Body::Join { .. } | Body::Touch { .. } => unreachable!(),
             Body::Look { .. } | Body::Edit { .. } => unreachable!(),
+            Body::MultiLook { .. } | Body::MultiEdit { .. } => unreachable!(),
         }
     }
 

@@ -6,6 +6,7 @@ use Rattle.std.proofs.Common.{arith, ap, sym, ◌∙◌}
 use Rattle.doc_model.specs.declared.key.DocKey.{DocKey}
 use Rattle.kv_request.specs.declared.request.Request.{Request}
 use Rattle.kv_request.specs.Tables.{document_key}
+use Rattle.kv_request.proofs.Small.{request_is_small}
 use Rattle.manifest_rules.specs.Catalog.{max_ttl_of}
 use Rattle.vb_core.specs.Log.{Content, with_entries, doc_of}
 use Rattle.vb_core.specs.Step.{Copy, document_request}
@@ -35,6 +36,9 @@ made c changed e = record { documents_are = made_at c.apply_change.new.documents
 -- what a vbucket comes to by a request
 abbrev operated : ℕ → ℕ → Request → Copy → Copy
 operated seen now request copy = record copy { content = with_entries copy.content (document_request copy.content seen now request).0 }
+
+pub plan-requires : goal.plan-requires
+plan-requires c = (request_is_small c.args.request.now c.requires.request).specs
 
 pub returns-after-made-clause-new : goal.returns-after-made-clause-new
 unfolding before
