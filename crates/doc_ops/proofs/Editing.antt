@@ -1,7 +1,6 @@
 -- Edits, one after the other.
-use Rattle.std.specs.Prelude.{◌≡◌, ℕ, ◌+◌, ◌≤◌, suc, Bool, true, List, [], ◌∷◌, ◌++◌, length, unwrap_or, Option, Some, None, Result, Ok, Err, ℤ, refl}
-use Rattle.std.specs.Option.{IfSome}
-use Rattle.std.proofs.Common.{get_or, take, drop, ◌-◌, ap, sym, subst, ◌∙◌, arith}
+use Rattle.std.specs.Prelude.{◌≡◌, ℕ, ◌+◌, ◌≤◌, suc, true, List, [], ◌∷◌, ◌++◌, length, unwrap_or, None, Result, Ok, Err, refl}
+use Rattle.std.proofs.Common.{get_or, take, drop, ◌-◌, ap, sym, ◌∙◌, arith}
 use Rattle.std.proofs.lemmas.List.{take_all}
 use Rattle.doc_model.specs.declared.document.Doc.{Doc}
 use Rattle.doc_model.specs.declared.status.Status.{Status}

@@ -1,7 +1,7 @@
 -- What edits come to is what the document step says.
 use Rattle.std.specs.Prelude.{◌≡◌, ℕ, List, [], ◌∷◌, Option, Result, Ok, Err, ℤ, refl}
 use Rattle.std.specs.Int.{w16, to_be_bytes}
-use Rattle.std.proofs.Common.{ap, sym, subst, ◌∙◌}
+use Rattle.std.proofs.Common.{ap, sym, ◌∙◌}
 use Rattle.doc_model.specs.declared.document.Doc.{Doc}
 use Rattle.doc_model.specs.declared.status.Status.{Status}
 use Rattle.doc_model.specs.declared.status.Refused.{Refused}

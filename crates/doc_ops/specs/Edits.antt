@@ -1,5 +1,5 @@
 -- What editing parts of a document came to.
-use Rattle.std.specs.Prelude.{◌≡◌, ℕ, ◌≤◌, Bool, true, List, length, unwrap_or, Option, Some, Result, Ok, Err, ℤ}
+use Rattle.std.specs.Prelude.{◌≡◌, ℕ, true, unwrap_or, Option, Result, Ok, Err, ℤ}
 use Rattle.std.specs.Option.{IfSome}
 use Rattle.doc_model.specs.declared.document.Doc.{Doc}
 use Rattle.doc_model.specs.declared.status.Status.{Status}
@@ -8,9 +8,8 @@ use Rattle.doc_model.specs.declared.status.Refused.{Refused}
 use Rattle.subdoc_edit.specs.declared.editing.Edited.{Edited}
 use Rattle.xattr_edit.specs.declared.editing.EditedSection.{EditedSection}
 use Rattle.kv_request.specs.declared.request.Spec.{Spec}
-use Rattle.doc_step.specs.Expiry.{Setting}
 use Rattle.doc_step.specs.Replies.{json_of}
-use Rattle.doc_step.specs.Parts.{EditedDoc, edited_doc, doc_to_edit, Folded, all_made, refused_at, edits_from}
+use Rattle.doc_step.specs.Parts.{edited_doc, Folded, all_made, refused_at}
 use Rattle.doc_ops.specs.declared.edits.Begun.{Begun}
 use Rattle.doc_ops.specs.declared.edits.Draft.{Draft}
 use Rattle.doc_ops.specs.declared.edits.Made.{Made}

@@ -1,5 +1,5 @@
 -- Two runs over the same input come to the same.
-use Rattle.std.proofs.Common.{◌≡◌, ◌≢◌, ℕ, ◌+◌, ◌<◌, ◌≤◌, Bool, true, false, List, [], ◌∷◌, ◌++◌, length, take, drop, Option, Some, None, inl, inr, ◌⊎◌, refl, sym, ap, subst, ◌∙◌, append_assoc, append-nil, take-append-drop, length-append, arith}
+use Rattle.std.proofs.Common.{◌≡◌, ◌≢◌, ℕ, ◌+◌, ◌<◌, ◌≤◌, Bool, true, false, List, [], ◌∷◌, ◌++◌, length, take, drop, Option, Some, inl, inr, ◌⊎◌, refl, sym, ap, subst, ◌∙◌, append_assoc, append-nil, take-append-drop, length-append, arith}
 use Rattle.std.specs.List.{flat_map}
 use Rattle.std.specs.Io.KnownBytes.{append_known, IsAtEnd}
 use Rattle.std.proofs.lemmas.List.{take_at, drop_at, take-take}
@@ -10,7 +10,6 @@ use Rattle.kv_edge.proofs.Known.{took_known}
 use Rattle.kv_frame.specs.declared.frame.Frame.{Frame}
 use Rattle.kv_frame.specs.declared.frame.Side.TheVariants.{Requests}
 use Rattle.kv_frame.specs.declared.judging.Fault.{Fault}
-use Rattle.kv_frame.specs.declared.judging.Judged.{Judged}
 use Rattle.kv_frame.specs.declared.judging.Judged.TheVariants as judged
 use Rattle.kv_frame.specs.Grammar.{spelling}
 use Rattle.kv_frame.specs.Judging.{Lacks, IsBad}

@@ -1,5 +1,5 @@
 -- Two runs over the same input.
-use Rattle.std.specs.Prelude.{◌≡◌, ◌≢◌, ℕ, List, [], Option, Some}
+use Rattle.std.specs.Prelude.{◌≡◌, ◌≢◌, ℕ, List, [], Some}
 use Rattle.std.specs.List.{AllByRecursion}
 use Rattle.kv_request.specs.declared.reply.Reply.{Reply}
 use Rattle.doc_model.specs.declared.status.TheConstants.Status as status

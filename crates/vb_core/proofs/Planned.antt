@@ -1,36 +1,19 @@
 -- What a change that is planned comes to: the entries and the reply of the step.
-use Rattle.std.specs.Prelude.{◌≡◌, ℕ, ◌+◌, ◌<◌, ◌*◌, ◌^◌, max, nat_eq, nat_lt, Bool, true, false, List, [], length, Option, Some, None, unwrap_or, Result, Ok, Err, if◌then◌else◌, refl}
-use Rattle.std.specs.Option.{option_map_or}
+use Rattle.std.specs.Prelude.{◌≡◌, ℕ, ◌+◌, ◌<◌, ◌*◌, ◌^◌, max, Bool, Option, Some, unwrap_or, Ok, if◌then◌else◌, refl}
 use Rattle.std.specs.FinMap as map
-use Rattle.std.specs.Int.{w64, to_be_bytes}
-use Rattle.std.specs.Fmt.{decimal}
-use Rattle.std.proofs.Common.{sym, ◌∙◌, ap, subst, arith}
+use Rattle.std.proofs.Common.{sym, ◌∙◌, ap, arith}
 use Rattle.doc_model.specs.declared.key.DocKey.{DocKey}
 use Rattle.doc_model.specs.declared.document.Doc.{Doc}
 use Rattle.doc_model.specs.declared.document.What.{What}
 use Rattle.doc_model.specs.declared.document.What.TheVariants as whats
-use Rattle.doc_model.specs.declared.status.Status.{Status}
-use Rattle.doc_model.specs.declared.status.TheConstants.Status as status
 use Rattle.doc_model.specs.Keys.{key_cmp}
-use Rattle.kv_request.specs.declared.reading.TheConstants.{VALUE_LIMIT}
-use Rattle.json_model.specs.declared.asked.Lookup.{Lookup}
-use Rattle.json_model.specs.declared.asked.Edit.{Edit}
-use Rattle.json_model.specs.Edit.{lookup_of, edit_of}
-use Rattle.json_model.specs.Order.{EditedText}
-use Rattle.subdoc_step.specs.Answers.{looked_up, edited}
-use Rattle.kv_request.specs.declared.request.Spec.{Spec}
 use Rattle.kv_request.specs.declared.request.Request.{Request}
 use Rattle.kv_request.specs.declared.request.Body.{Body}
-use Rattle.kv_request.specs.declared.request.Body.TheVariants as bodies
-use Rattle.kv_request.specs.declared.request.Mode.{Mode}
-use Rattle.kv_request.specs.declared.request.Mode.TheVariants as modes
 use Rattle.kv_request.specs.Tables.{no_key, key_named, document_key}
-use Rattle.doc_step.specs.declared.TheConstants.{NO_INITIAL}
 use Rattle.doc_step.specs.declared.Effect.{Effect}
 use Rattle.doc_step.specs.declared.Effect.TheVariants as effects
 use Rattle.doc_step.specs.declared.Change.{Change}
-use Rattle.doc_step.specs.Expiry.{Setting, there}
-use Rattle.doc_step.specs.Counter.{number_of, moved}
+use Rattle.doc_step.specs.Expiry.{Setting}
 use Rattle.doc_step.specs.Step.{document_step}
 use Rattle.doc_step.specs.Laws.{CarriesDraw}
 use Rattle.doc_step.proofs.Drawn.{carries}

@@ -1,5 +1,5 @@
 -- How long the object of attributes is beside their section.
-use Rattle.std.specs.Prelude.{◌≡◌, ℕ, zero, suc, ◌+◌, ◌-◌, ◌*◌, ◌<◌, ◌≤◌, nat_eq, nat_lt, ◌==◌, Bool, true, false, List, [], ◌∷◌, ◌++◌, length, take, drop, position, Option, Some, None, Result, Ok, Err, nat_le, if◌then◌else◌, refl}
+use Rattle.std.specs.Prelude.{◌≡◌, ℕ, zero, suc, ◌+◌, ◌-◌, ◌*◌, ◌≤◌, nat_eq, nat_lt, ◌==◌, Bool, true, false, List, [], ◌∷◌, length, take, drop, position, Option, Some, None, Result, Ok, Err, nat_le, if◌then◌else◌, refl}
 use Rattle.std.specs.List.{flat_map}
 use Rattle.std.specs.Option.{option_map_or}
 use Rattle.std.specs.Int.{w32}
@@ -11,7 +11,7 @@ use Rattle.doc_model.specs.declared.status.Status.{Status}
 use Rattle.doc_model.specs.declared.status.TheConstants.Status as status
 use Rattle.json_model.specs.declared.asked.Lookup.{Lookup}
 use Rattle.json_model.specs.declared.asked.Edit.{Edit}
-use Rattle.json_model.specs.Edit.{hex_digit, key_byte, key_text}
+use Rattle.json_model.specs.Edit.{key_byte, key_text}
 use Rattle.subdoc_step.specs.Answers.{looked_up, edited}
 use Rattle.subdoc_step.proofs.Went.{gave}
 use Rattle.subdoc_step.proofs.Within.{found_within}

@@ -1,7 +1,4 @@
-use Rattle.std.proofs.Common.{◌≡◌, List, ◌∙◌, unwrap_or, refl}
-use Rattle.std.specs.Option.{option_map}
-use Rattle.kv_request.specs.declared.request.Spec.{Spec}
-use Rattle.doc_step.specs.Expiry.{expiry_of}
+use Rattle.std.proofs.Common.{refl}
 use Rattle.doc_step.specs.Parts.{begun_doc, with_expiry}
 use Rattle.doc_ops.specs.Planning.{setting_of}
 use Rattle.doc_ops.proofs.Beginning.{starts_new, starts_old, keeps_old}

@@ -1,10 +1,9 @@
 use Rattle.std.proofs.Common.{◌≡◌, ℕ, List, [], ◌∷◌, ◌++◌, take, drop, length, ◌-◌, Err, ap, sym, subst, refl, arith, ◌∙◌}
-use Rattle.doc_model.specs.declared.document.Doc.{Doc}
 use Rattle.kv_request.specs.declared.request.Spec.{Spec}
 use Rattle.doc_step.specs.Parts.{edit_result, refused_at}
 use Rattle.doc_model.specs.declared.status.Refused.{Refused}
-use Rattle.doc_ops.specs.Edits.{Begins, drafted, MakesDoc}
-use Rattle.doc_ops.proofs.Editing.{AreToMake, none_made, draft_value, draft_xattrs, one_made, one_refused, all_are_made, front, no_more, any_doc}
+use Rattle.doc_ops.specs.Edits.{drafted, MakesDoc}
+use Rattle.doc_ops.proofs.Editing.{AreToMake, draft_value, draft_xattrs, one_made, one_refused, all_are_made, front, no_more, any_doc}
 use Rattle.doc_ops.proofs.edits.edit_all.Goals as goal
 
 pub returns-in-Err-Status : goal.returns-in-Err-Status

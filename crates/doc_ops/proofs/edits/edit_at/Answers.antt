@@ -1,4 +1,4 @@
-use Rattle.std.proofs.Common.{◌∙◌, refl, [], ◌∷◌}
+use Rattle.std.proofs.Common.{refl, [], ◌∷◌}
 use Rattle.doc_ops.specs.Planning.{setting_of}
 use Rattle.doc_ops.specs.Edits.{drafted}
 use Rattle.doc_ops.proofs.Editing.{any_doc}

@@ -1,5 +1,4 @@
-use Rattle.std.proofs.Common.{◌∙◌, refl, subst, [], ◌∷◌}
-use Rattle.doc_model.specs.declared.document.Doc.{Doc}
+use Rattle.std.proofs.Common.{subst, []}
 use Rattle.doc_step.specs.Parts.{edits_from}
 use Rattle.doc_ops.specs.declared.edits.Outcome.{Outcome}
 use Rattle.doc_ops.specs.Planning.{setting_of}

@@ -1,4 +1,4 @@
-use Rattle.std.proofs.Common.{◌≡◌, ◌<◌, ◌^◌, ℤ, ap, sym, subst, arith, ◌∙◌, length, to_z, of_z, w64, ℕ, Vec, Global}
+use Rattle.std.proofs.Common.{◌≡◌, ◌<◌, ◌^◌, ℤ, ap, sym, subst, arith, length, to_z, of_z, w64, ℕ, Vec, Global}
 use Rattle.std.specs.String.{string_vec}
 use Rattle.std.specs.Int.Signed.{mag}
 use Rattle.std.proofs.lemmas.Fmt.{length_signed_le}

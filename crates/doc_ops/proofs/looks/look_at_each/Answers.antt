@@ -1,4 +1,4 @@
-use Rattle.std.proofs.Common.{◌∙◌, sym}
+use Rattle.std.proofs.Common.{◌∙◌}
 use Rattle.doc_ops.proofs.Looking.{serve_each}
 use Rattle.doc_ops.proofs.looks.look_at_each.Goals as goal
 

@@ -1,4 +1,4 @@
-use Rattle.std.proofs.Common.{ℕ, ◌+◌, length, refl, subst, arith}
+use Rattle.std.proofs.Common.{◌+◌, refl, subst, arith}
 use Rattle.kv_session.specs.declared.session.Next.TheVariants as nexts
 use Rattle.kv_session.specs.Session.{Advances}
 use Rattle.kv_tool.proofs.Answering.{passes_on, tells, given_so, waits, breaks, bad_short}

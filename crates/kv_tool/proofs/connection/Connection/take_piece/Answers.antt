@@ -1,9 +1,8 @@
-use Rattle.std.proofs.Common.{◌≡◌, ℕ, ◌+◌, List, [], length, drop, Some, sym, ap, subst, ◌∙◌, arith, length-drop}
+use Rattle.std.proofs.Common.{ℕ, List, length, drop, ap, subst, arith, length-drop}
 use Rattle.std.proofs.lemmas.List.{drop-drop}
-use Rattle.kv_tool.specs.declared.connection.Connection.{Connection}
 use Rattle.kv_tool.specs.Outcomes.{Seen}
 use Rattle.kv_tool.specs.Progress.{Progress, FeedsOn, FeedsOne}
-use Rattle.kv_tool.proofs.Counting.{shrinks, feeds_count, written_held, written_fed}
+use Rattle.kv_tool.proofs.Counting.{shrinks, written_held, written_fed}
 use Rattle.kv_tool.proofs.Running.{feeds, feeds_all, feeds_one, writes}
 use Rattle.kv_tool.proofs.Ending.{stops, falls_short, pauses, ends}
 use Rattle.kv_tool.proofs.connection.Connection.take_piece.Goals as goal
