@@ -22,6 +22,8 @@ mod connection;
 mod exit;
 mod laws;
 mod offline;
+#[cfg(test)]
+mod part_tests;
 mod piping;
 #[cfg(test)]
 mod tests;
