@@ -6,6 +6,8 @@ in the same run. Seconds are those of the processor, user and system together; p
 
 - Get, DictUpsert and ArrayPushLast at the end of a document of 1 MiB of small objects: the difference of two runs of which
   one has more of them, divided by how many more it has.
+- Sixteen Gets in one request at the end of that document, sixteen DictUpserts, and sixteen Gets in an attribute of nearly
+  1 MiB, timed likewise.
 - One Set of a text of 20 MiB, which is judged once, and one Get of its last element, which is judged once more: a text of
   `[],` over and over, one of `1,` over and over, and one long string; less what a Set and a Get of as many bytes that are
   no JSON take.
@@ -21,6 +23,7 @@ import tempfile
 TOP = pathlib.Path(__file__).resolve().parent.parent
 PROGRAM = pathlib.Path(sys.argv[1] if len(sys.argv) > 1 else TOP / "crates/hawoyefa/out/hawoyefa").resolve()
 SET, GET, LOOK, UPSERT, PUSH_LAST = 0x01, 0x00, 0xC5, 0xC8, 0xCB
+MULTI_LOOK, MULTI_EDIT, XATTR = 0xD0, 0xD1, 0x04
 MIB = 1 << 20
 
 
@@ -33,6 +36,18 @@ def frame(opcode: int, extras: bytes, key: bytes, value: bytes) -> bytes:
 def part(opcode: int, path: bytes, value: bytes = b"") -> bytes:
     """A request on a part of the document `d`."""
     return frame(opcode, struct.pack(">HB", len(path), 0), b"d", path + value)
+
+
+def looks(paths: list[bytes], flags: int = 0) -> bytes:
+    """A request of Gets at these paths of the document `d`."""
+    specs = (struct.pack(">BBH", LOOK, flags, len(path)) + path for path in paths)
+    return frame(MULTI_LOOK, b"", b"d", b"".join(specs))
+
+
+def upserts(paths: list[bytes], value: bytes, flags: int = 0) -> bytes:
+    """A request of DictUpserts at these paths of the document `d`."""
+    specs = (struct.pack(">BBHI", UPSERT, flags, len(path), len(value)) + path + value for path in paths)
+    return frame(MULTI_EDIT, b"", b"d", b"".join(specs))
 
 
 def stored(text: bytes) -> bytes:
@@ -97,6 +112,25 @@ def at_the_end() -> None:
         print(f"  {name:<22} {(many - few) / 32 * 1000:6.1f} ms", flush=True)
 
 
+def sixteen() -> None:
+    text = small_objects()
+    members = [b"last.m%d" % number for number in range(16)]
+    begun = stored(text) + upserts(members, b"1")
+    attribute = small_objects()[: -len(b', "last": {"a": 1, "b": [2]}}')] + b', "l": 1}'
+    attribute = attribute[: attribute.index(b"{", 900_000) - 2] + b'], "l": 1}'
+    kept = stored(b"{}") + upserts([b"a"], attribute, XATTR)
+    for name, start, one in (
+        ("16 Gets", begun, looks(members)),
+        ("16 DictUpserts", begun, upserts(members, b"2")),
+        ("16 Gets of an attribute", kept, looks([b"a.l"] * 16, XATTR)),
+        ("1 Get of an attribute", kept, looks([b"a.l"], XATTR)),
+    ):
+        few, _ = timed(start + one * 2)
+        many, _ = timed(start + one * 18)
+        print(f"  {name:<24} {(many - few) / 16 * 1000:6.1f} ms a request", flush=True)
+    print(f"  the attribute has {len(attribute)} bytes; json.loads {loads(attribute) * 1000:.1f} ms")
+
+
 def filled(piece: bytes, last: bytes) -> bytes:
     """A list of 20 MiB of such elements."""
     return b"[" + piece * ((20 * MIB - len(last) - 2) // len(piece)) + last + b"]"
@@ -117,6 +151,7 @@ def large() -> None:
 
 def main() -> None:
     at_the_end()
+    sixteen()
     large()
     text = b"[" + b"1," * (10 * MIB - 8) + b"1]"
     _, peak = timed(stored(text) + part(PUSH_LAST, b"", b"2"))
