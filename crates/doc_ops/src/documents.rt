@@ -23,7 +23,8 @@ pub(crate) fn stored_doc(
     value: &Bytes,
     doc: Option<&Doc>,
 ) -> Result<Doc, NoMemory>
-    ensures { IfOk result (λ stored. stored ≡ stored_doc (setting_of setting) flags expiry value.now (option_copied doc.entry)) }
+    ensures { IfOk result (λ stored. stored ≡ stored_doc
+        (setting_of setting) flags expiry value.now (option_copied doc.entry)) }
 {
     let value = value.copy(alloc)?;
     let xattrs = kept_xattrs(alloc, doc)?;

@@ -1,7 +1,8 @@
 //! Edits of parts of the document that is there, or of a new one where none is there and the request
 //! asks for one.
 
-ghost use Rattle.std.specs.Prelude.{◌≡◌, ℕ, ◌++◌, ◌≤◌, ◌<◌, [], ◌∷◌, List, true, false, not, find, length, unwrap_or, Ok, OnOk, IfOk, IsSome};
+ghost use Rattle.std.specs.Prelude.{◌≡◌, ℕ, ◌++◌, ◌≤◌, ◌<◌, [], ◌∷◌, List, true, false, not, find};
+ghost use Rattle.std.specs.Prelude.{length, unwrap_or, Ok, OnOk, IfOk, IsSome};
 ghost use Rattle.std.specs.Int.{w16, to_be_bytes};
 ghost use Rattle.std.specs.Fmt.{signed_decimal};
 ghost use Rattle.std.specs.Option.{option_copied, option_map};
@@ -70,7 +71,8 @@ pub(crate) fn edit_at(
     doc_flags: u8,
     doc: Option<&Doc>,
 ) -> Result<Change, Refused>
-    ensures { Plans (edit_step (setting_of setting) request.now spec.now expiry doc_flags (option_copied doc.entry)) result }
+    ensures { Plans (edit_step (setting_of setting) request.now spec.now expiry doc_flags
+        (option_copied doc.entry)) result }
 {
     let text = begun_for(spec);
     let begun = match begin(setting, text, expiry, doc_flags, doc) {
@@ -101,7 +103,8 @@ pub(crate) fn edit_each(
     doc: Option<&Doc>,
 ) -> Result<Change, Refused>
     requires { length specs.now ≤ MOST_SPECS }
-    ensures { Plans (multi_edit_step (setting_of setting) request.now specs.now expiry doc_flags (option_copied doc.entry)) result }
+    ensures { Plans (multi_edit_step (setting_of setting) request.now specs.now expiry doc_flags
+        (option_copied doc.entry)) result }
 {
     let text = begun_value(specs);
     let begun = match begin(setting, text, expiry, doc_flags, doc) {
@@ -128,7 +131,8 @@ fn begin<'a>(
     doc_flags: u8,
     doc: Option<&'a Doc>,
 ) -> Result<Begun<'a>, Status>
-    ensures { (specs : List Spec) → text.now ≡ begun_value specs → FindsDoc (doc_to_edit (setting_of setting) expiry doc_flags specs (option_copied doc.entry)) result }
+    ensures { (specs : List Spec) → text.now ≡ begun_value specs → FindsDoc (doc_to_edit
+        (setting_of setting) expiry doc_flags specs (option_copied doc.entry)) result }
 {
     match doc {
         None => {
@@ -213,7 +217,8 @@ fn edit_all(
     begun: &Begun<'_>,
 ) -> Result<Outcome, NoMemory>
     requires { length specs.now ≤ MOST_SPECS }
-    ensures { IfOk result (λ outcome. (doc : Doc) → Begins begun.now doc → FoldsTo doc (edits_from doc_flags 0 doc [] specs.now) outcome) }
+    ensures { IfOk result (λ outcome. (doc : Doc) → Begins begun.now doc → FoldsTo doc
+        (edits_from doc_flags 0 doc [] specs.now) outcome) }
 {
     let mut draft = Draft {
         value: None,
@@ -266,7 +271,8 @@ fn edit_one(
     value: &[u8],
     xattrs: &[u8],
 ) -> Result<Made, Refused>
-    ensures { (doc : Doc) → value.now ≡ doc.value → xattrs.now ≡ doc.xattrs → MakesDoc spec.now doc_flags doc result }
+    ensures { (doc : Doc) → value.now ≡ doc.value → xattrs.now ≡ doc.xattrs
+        → MakesDoc spec.now doc_flags doc result }
 {
     if edit_of(spec.opcode).is_none() {
         return Err(Refused::Status(Status::UNKNOWN_COMMAND));
@@ -416,7 +422,8 @@ fn store(
     told: Bytes,
 ) -> Result<Change, NoMemory>
     requires { IsDraft draft }
-    ensures { IfOk result (λ change. (doc : Doc) → Begins begun.now doc → Ok change ≡ storing request.now (changed (setting_of setting) (drafted draft doc)) told) }
+    ensures { IfOk result (λ change. (doc : Doc) → Begins begun.now doc
+        → Ok change ≡ storing request.now (changed (setting_of setting) (drafted draft doc)) told) }
 {
     let Draft { value, xattrs } = draft;
     let json = value.is_some() || json_of(begun.value);

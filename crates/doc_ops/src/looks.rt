@@ -1,6 +1,7 @@
 //! Look-ups of parts of the document that is there.
 
-ghost use Rattle.std.specs.Prelude.{◌≡◌, ◌++◌, ◌≤◌, ◌<◌, ◌-◌, not, length, take, drop, Ok, Err, OnOk, IfOk, is_ok};
+ghost use Rattle.std.specs.Prelude.{◌≡◌, ◌++◌, ◌≤◌, ◌<◌, ◌-◌, not, length, take, drop, Ok, Err};
+ghost use Rattle.std.specs.Prelude.{OnOk, IfOk, is_ok};
 ghost use Rattle.std.specs.List.{AllByRecursion, list_any};
 ghost use Rattle.std.specs.Option.{option_copied};
 ghost use Rattle.std.specs.Fmt.{decimal};
@@ -232,7 +233,9 @@ fn add_result(
 ) -> Result<bool, Refused>
     requires { Serve doc.now texts.now spec.now }
     ensures added { OnOk result (out.new.items ≡ out.old.items ++ look_result (found_in doc.now spec.now)) }
-    ensures told { Told (λ found. found ≡ is_ok (found_in doc.now spec.now)) (λ s. (s ≡ status.E2BIG) × (VALUE_LIMIT < length (look_result (found_in doc.now spec.now)))) result }
+    ensures told { Told (λ found. found ≡ is_ok (found_in doc.now spec.now)) (λ s.
+        (s ≡ status.E2BIG) × (VALUE_LIMIT < length (look_result
+        (found_in doc.now spec.now)))) result }
 {
     match look_in(alloc, spec, doc, texts) {
         Ok(piece) => {
@@ -250,8 +253,10 @@ fn add_result(
 /// Adds the result of a look-up that found a piece, unless that passes the limit by itself.
 fn add_found(alloc: Global, out: &mut Vec<u8>, text: &[u8], piece: Piece) -> Result<(), Refused>
     requires { IsWithin text.now piece }
-    ensures added { OnOk result (out.new.items ≡ out.old.items ++ look_result (Ok (piece_text text.now piece))) }
-    ensures told { Told (λ done. Unit {0}) (λ s. (s ≡ status.E2BIG) × (VALUE_LIMIT < length (look_result (Ok (piece_text text.now piece))))) result }
+    ensures added { OnOk result (out.new.items ≡ out.old.items ++ look_result (Ok
+        (piece_text text.now piece))) }
+    ensures told { Told (λ done. Unit {0}) (λ s. (s ≡ status.E2BIG) × (VALUE_LIMIT < length
+        (look_result (Ok (piece_text text.now piece))))) result }
 {
     match piece.count {
         Some(count) => {

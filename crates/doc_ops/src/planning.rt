@@ -4,7 +4,9 @@ ghost use Rattle.std.specs.Prelude.{◌≡◌, ◌≤◌, ◌+◌, length, true,
 ghost use Rattle.std.specs.Option.{option_copied};
 ghost use Rattle.kv_request.specs.declared.multi.TheConstants.{MOST_SPECS};
 ghost use Rattle.kv_request.specs.Tables.{specs_brought};
-ghost use Rattle.doc_step.specs.Step.{cas_refusal, get_step, stored_doc, store_step, delete_step, count_step, join_step, touched_reply, touch_step, operation, document_step, Plans};
+ghost use Rattle.doc_step.specs.Step.{cas_refusal, get_step, stored_doc, store_step, delete_step};
+ghost use Rattle.doc_step.specs.Step.{count_step, join_step, touched_reply, touch_step, operation};
+ghost use Rattle.doc_step.specs.Step.{document_step, Plans};
 ghost use Rattle.doc_ops.specs.Planning.{setting_of, mode_refusal};
 
 use crate::counter::{decimal, moved, number_of};
@@ -46,7 +48,9 @@ pub fn plan(
     draw: u64,
 ) -> Result<Change, Refused>
     requires { length (specs_brought request.now.body) ≤ MOST_SPECS }
-    ensures { Plans (document_step (record { max_ttl = max_ttl; now = now; draw = draw }) request.now (option_copied doc.entry)) result }
+    ensures { Plans (document_step (record
+        { max_ttl = max_ttl; now = now; draw = draw }) request.now
+        (option_copied doc.entry)) result }
 {
     let doc = there(now, doc);
     if let Some(status) = cas_refusal(request.cas, doc) {
@@ -78,7 +82,8 @@ fn plan_operation(
     doc: Option<&Doc>,
 ) -> Result<Change, Refused>
     requires { length (specs_brought request.now.body) ≤ MOST_SPECS }
-    ensures { Plans (operation (setting_of setting) request.now request.now.body (option_copied doc.entry)) result }
+    ensures { Plans (operation (setting_of setting) request.now request.now.body
+        (option_copied doc.entry)) result }
 {
     match &request.body {
         Body::Hello { .. }
@@ -153,7 +158,8 @@ fn store(
     value: &Bytes,
     doc: Option<&Doc>,
 ) -> Result<Change, Refused>
-    ensures { Plans (store_step (setting_of setting) request.now mode (option_copied doc.entry) (stored_doc (setting_of setting) flags expiry value.now (option_copied doc.entry))) result }
+    ensures { Plans (store_step (setting_of setting) request.now mode (option_copied doc.entry)
+        (stored_doc (setting_of setting) flags expiry value.now (option_copied doc.entry))) result }
 {
     if let Some(status) = mode_refusal(mode, doc) {
         return Err(Refused::Status(status));
@@ -202,7 +208,8 @@ fn count(
     expiry: u32,
     doc: Option<&Doc>,
 ) -> Result<Change, Refused>
-    ensures { Plans (count_step (setting_of setting) request.now up delta initial expiry (option_copied doc.entry)) result }
+    ensures { Plans (count_step (setting_of setting) request.now up delta initial expiry
+        (option_copied doc.entry)) result }
 {
     match doc {
         None => begin_count(alloc, setting, request, initial, expiry),
@@ -259,7 +266,8 @@ fn join(
     value: &Bytes,
     doc: Option<&Doc>,
 ) -> Result<Change, Refused>
-    ensures { Plans (join_step (setting_of setting) request.now front value.now (option_copied doc.entry)) result }
+    ensures { Plans (join_step (setting_of setting) request.now front value.now
+        (option_copied doc.entry)) result }
 {
     let Some(doc) = doc else {
         return Err(Refused::Status(Status::NOT_STORED));
@@ -289,7 +297,8 @@ fn touch(
     fetch: bool,
     doc: Option<&Doc>,
 ) -> Result<Change, Refused>
-    ensures { Plans (touch_step (setting_of setting) request.now key.now expiry fetch (option_copied doc.entry)) result }
+    ensures { Plans (touch_step (setting_of setting) request.now key.now expiry fetch
+        (option_copied doc.entry)) result }
 {
     let Some(doc) = doc else {
         return Err(Refused::Status(Status::KEY_ENOENT));
