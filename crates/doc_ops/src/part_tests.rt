@@ -5,6 +5,9 @@ use kv_edge::{Bytes, NoMemory};
 use kv_request::{Body, Request, Spec};
 use std::alloc::Global;
 
+ghost use Rattle.std.specs.Prelude.{◌≡◌, [], IfOk};
+ghost use Rattle.kv_request.specs.Tables.{specs_brought};
+
 const GET: u8 = 0xc5;
 
 const EXISTS: u8 = 0xc6;
@@ -25,7 +28,9 @@ const COUNT: u8 = 0xd2;
 type Asked<'a> = (u8, u8, &'a [u8], &'a [u8], Option<u32>, u8);
 
 /// The request, at the key `a`.
-fn request(alloc: Global, asked: Asked<'_>) -> Result<Request, NoMemory> {
+fn request(alloc: Global, asked: Asked<'_>) -> Result<Request, NoMemory>
+    ensures { IfOk result (λ request. specs_brought request.body ≡ []) }
+{
     let (opcode, flags, path, value, expiry, doc_flags) = asked;
     let key = DocKey {
         collection: 9,

@@ -5,6 +5,9 @@ use kv_request::{Body, Mode, Request};
 use std::alloc::Global;
 use std::test::Fail;
 
+ghost use Rattle.std.specs.Prelude.{◌≡◌, [], IfOk};
+ghost use Rattle.kv_request.specs.Tables.{specs_brought};
+
 // The CAS that each change draws.
 const DRAW: u64 = 77;
 
@@ -38,7 +41,9 @@ fn key(alloc: Global) -> Result<DocKey, NoMemory> {
     Ok(DocKey { collection: 9, key })
 }
 
-fn store(alloc: Global, mode: Mode, expiry: u32) -> Result<Body, NoMemory> {
+fn store(alloc: Global, mode: Mode, expiry: u32) -> Result<Body, NoMemory>
+    ensures { IfOk result (λ body. specs_brought body ≡ []) }
+{
     let key = key(alloc)?;
     let value = Bytes::from_slice(alloc, b"new")?;
     Ok(Body::Store {
@@ -50,7 +55,9 @@ fn store(alloc: Global, mode: Mode, expiry: u32) -> Result<Body, NoMemory> {
     })
 }
 
-fn count(alloc: Global, up: bool, delta: u64, expiry: u32) -> Result<Body, NoMemory> {
+fn count(alloc: Global, up: bool, delta: u64, expiry: u32) -> Result<Body, NoMemory>
+    ensures { IfOk result (λ body. specs_brought body ≡ []) }
+{
     Ok(Body::Count {
         key: key(alloc)?,
         up,
@@ -60,13 +67,17 @@ fn count(alloc: Global, up: bool, delta: u64, expiry: u32) -> Result<Body, NoMem
     })
 }
 
-fn join(alloc: Global, front: bool) -> Result<Body, NoMemory> {
+fn join(alloc: Global, front: bool) -> Result<Body, NoMemory>
+    ensures { IfOk result (λ body. specs_brought body ≡ []) }
+{
     let key = key(alloc)?;
     let value = Bytes::from_slice(alloc, b"+")?;
     Ok(Body::Join { key, front, value })
 }
 
-fn touch(alloc: Global, expiry: u32, fetch: bool) -> Result<Body, NoMemory> {
+fn touch(alloc: Global, expiry: u32, fetch: bool) -> Result<Body, NoMemory>
+    ensures { IfOk result (λ body. specs_brought body ≡ []) }
+{
     Ok(Body::Touch {
         key: key(alloc)?,
         expiry,
@@ -74,7 +85,9 @@ fn touch(alloc: Global, expiry: u32, fetch: bool) -> Result<Body, NoMemory> {
     })
 }
 
-fn body(alloc: Global, asked: Asked) -> Result<Body, NoMemory> {
+fn body(alloc: Global, asked: Asked) -> Result<Body, NoMemory>
+    ensures { IfOk result (λ body. specs_brought body ≡ []) }
+{
     match asked {
         Asked::Hello => Ok(Body::Hello {
             wanted: Seq::new(alloc),
@@ -117,7 +130,9 @@ fn opcode(asked: Asked) -> u8 {
     }
 }
 
-fn request(alloc: Global, asked: Asked, cas: u64) -> Result<Request, NoMemory> {
+fn request(alloc: Global, asked: Asked, cas: u64) -> Result<Request, NoMemory>
+    ensures { IfOk result (λ request. specs_brought request.body ≡ []) }
+{
     Ok(Request {
         opcode: opcode(asked),
         opaque: 7,
