@@ -1,12 +1,12 @@
 //! Look-ups and edits of parts, by what they find, store and answer.
+ghost use Rattle.std.specs.Prelude.{◌≡◌, [], IfOk};
+ghost use Rattle.kv_request.specs.Tables.{specs_brought};
+
 use crate::{Change, Effect, plan};
 use doc_model::{Doc, DocKey, Refused};
 use kv_edge::{Bytes, NoMemory};
 use kv_request::{Body, Request, Spec};
 use std::alloc::Global;
-
-ghost use Rattle.std.specs.Prelude.{◌≡◌, [], IfOk};
-ghost use Rattle.kv_request.specs.Tables.{specs_brought};
 
 const GET: u8 = 0xc5;
 

@@ -1,12 +1,12 @@
+ghost use Rattle.std.specs.Prelude.{◌≡◌, [], IfOk};
+ghost use Rattle.kv_request.specs.Tables.{specs_brought};
+
 use crate::{Change, Effect, plan};
 use doc_model::{Doc, DocKey, Refused, Status};
 use kv_edge::{Bytes, NoMemory, Seq};
 use kv_request::{Body, Mode, Request};
 use std::alloc::Global;
 use std::test::Fail;
-
-ghost use Rattle.std.specs.Prelude.{◌≡◌, [], IfOk};
-ghost use Rattle.kv_request.specs.Tables.{specs_brought};
 
 // The CAS that each change draws.
 const DRAW: u64 = 77;
