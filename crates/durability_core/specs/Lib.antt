@@ -1,0 +1,3 @@
+-- Chains of places, and when a prepare is ready.
+pub mod Chains
+pub mod Ready

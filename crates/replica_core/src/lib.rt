@@ -1,0 +1,51 @@
+//! How a copy of a vbucket takes part in replication, by numbers alone: who may lead at which term,
+//! what a fence answers, which promotions are refused, and what a copy is to do with a message.
+//!
+//! # Terms
+//!
+//! A term is 4 times its round, counted from 1, and the place of its owner; it is below 2^48. Only
+//! the copy at that place may be promoted at it. No place owns a number that is no term.
+//!
+//! | Number | Term | Owner |
+//! |---|---|---|
+//! | 0 to 3 | none | none |
+//! | 4 | round 1 | place 0 |
+//! | 9 | round 2 | place 1 |
+//! | 2^48 | none | none |
+//!
+//! # Fences and promotions
+//!
+//! A fence at a term below the copy's promise is refused as Old; else its answer tells place, term,
+//! accepted term, length, incarnation and whether the copy is whole. A promotion at a term by
+//! answers is refused for the first of these reasons that holds:
+//!
+//! | Fault | where |
+//! |---|---|
+//! | Owner | the copy's place doesn't own the term |
+//! | Old | the term is at most the accepted one, or below the promise |
+//! | Few | fewer than a majority of the named places answered at the term |
+//! | Foreign | an answer has another term, a place without a name or a place that answered already; or the copy's own answer isn't there as it would be now; or its promise isn't the term |
+//! | NotLongest | an answer has a higher accepted term, or the same and a greater length |
+//! | NotWhole | the promotion is strict, and an answer is of a copy that isn't whole |
+//!
+//! # Messages
+//!
+//! | Message | an active copy | a replica or a pending copy |
+//! |---|---|---|
+//! | Entry | ignores it | appends it, acknowledges it where it has it, or asks to rejoin |
+//! | Ack | counts it | asks to rejoin, where it has less than that or isn't whole |
+//! | Rejoin | gives all that it has | ignores it |
+//! | Adopt | ignores it | takes all of it, or is whole where it has as much |
+//!
+//! An active copy hears messages of its own term, another those of the owner of a term that is at
+//! least its promise, a dead one none; and all hear places that the chain names alone
+//! (`specs/Hearing.antt`).
+#![tactic(auto)]
+
+mod copy;
+mod fences;
+mod messages;
+
+pub use copy::{CopyCore, Role};
+pub use fences::{FenceAnswer, PromoteFault};
+pub use messages::{ACK, ADOPT, ENTRY, Heard, MessageHead, REJOIN};
