@@ -33,7 +33,7 @@
 //! | Message | an active copy | a replica or a pending copy |
 //! |---|---|---|
 //! | Entry | ignores it | appends it, acknowledges it where it has it, or asks to rejoin |
-//! | Ack | counts it | asks to rejoin, where it has less than that or isn't whole |
+//! | Ack | counts it | asks to rejoin, unless it is whole and has as much of that term |
 //! | Rejoin | gives all that it has | ignores it |
 //! | Adopt | ignores it | takes all of it, or is whole where it has as much |
 //!
@@ -44,8 +44,13 @@
 
 mod copy;
 mod fences;
+mod laws;
 mod messages;
 
 pub use copy::{CopyCore, Role};
 pub use fences::{FenceAnswer, PromoteFault};
+pub use laws::{
+    dead_copies_hear_nothing, promotion_meets_each_majority, promotion_needs_a_majority,
+    terms_have_one_owner,
+};
 pub use messages::{ACK, ADOPT, ENTRY, Heard, MessageHead, REJOIN};
