@@ -89,10 +89,12 @@ pub record Copy (L Y : Type 0) : Type 0 where
   pub tickets : List OpenTicket
   pub unspoken : List (Sent L)
   pub untold : List Seen
-  -- the pair on disk, and the one that a stopped write may have left in its place
+  -- The pair on disk, and the one that a stopped write may have left in its place: none while the
+  -- copy isn't dead.
   pub disk : Pair L Y
   pub torn : Option (Pair L Y)
-  -- the entries added one by one since the last flush, and the bytes of their spellings
+  -- The entries added one by one since the opening, or since the log was last put on disk, and the
+  -- bytes of their spellings. All of a log that was taken at once adds nothing.
   pub unflushed_entries : ℕ
   pub unflushed_bytes : ℕ
   -- whether the log was begun anew beside the disk's
@@ -116,6 +118,8 @@ pub record LayoutKind (Y : Type 0) : Type 0 where
   pub free : Y → ℕ
   -- what cleaning of at most so many items comes to, where the disk's log comes to a content
   pub cleaned : Y → ℕ → Content → Cleaning
+  -- whether a layout is that of an empty store
+  pub begins : Y → Bool
   -- whether a write may leave the last layout: a commit, a promise, an opening, a cleaning
   pub commits : Y → Bool → ℕ → Content → Y → Bool
   pub promises : Y → Y → Bool

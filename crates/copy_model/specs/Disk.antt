@@ -98,7 +98,7 @@ abbrev pub flushing :
     {L Y : Type 0} → LogKind L → LayoutKind Y → Luck Y → Copy L Y → Put (Copy L Y)
 flushing k y luck c = put_then (after_flush k) (write_log k y luck c.accepted c)
 
--- whether so much isn't on disk that a change begins with a flush
+-- whether so much was added since the last flush that a change begins with one
 abbrev pub must_flush : {L Y : Type 0} → Copy L Y → Bool
 must_flush c =
     nat_le UNFLUSHED_ENTRIES c.unflushed_entries || nat_le UNFLUSHED_BYTES c.unflushed_bytes

@@ -2,7 +2,7 @@
 use Rattle.std.specs.Prelude.{◌≡◌, is_some, Bool, true, false, ◌&&◌, not}
 use Rattle.vb_log.specs.Logs.{LogKind}
 use Rattle.replica_core.specs.Terms.{is_dead}
-use Rattle.copy_model.specs.Copies.{Message, EntrySent, AckSent, RejoinSent, AdoptSent, Pair, Copy, Chance, Fine, ReadFails, DiskFails, NoMemory, LayoutKind, Luck}
+use Rattle.copy_model.specs.Copies.{Message, EntrySent, AckSent, RejoinSent, AdoptSent, Pair, Copy, Chance, Fine, ReadFails, DiskFails, NoMemory, LayoutKind, Luck, lacks_memory, fails_read}
 use Rattle.copy_model.specs.Entries.{content}
 use Rattle.copy_model.specs.Events.{Event, Requests, Polls, Forgets, Hears, Speaks, TellsChange, Ticks, Flushes, Cleans, Fences, Promotes, SetsState, Told, step}
 use Rattle.copy_model.specs.Openings.{is_spent}
@@ -44,14 +44,42 @@ failing c = record { chance = DiskFails; layout = c.disk.layout }
 abbrev pub writes : {L Y : Type 0} → LogKind L → LayoutKind Y → Event L → Copy L Y → Bool
 writes k y e c = not (is_dead c.role) && is_some (step k y (failing c) e c).0.torn
 
--- An event that writes leaves a layout that what it writes may leave.
-abbrev pub IsLaid :
-    {L Y : Type 0} → LogKind L → LayoutKind Y → Event L → Copy L Y → Y → Type 0
-IsLaid k y e c layout = writes k y e c ≡ true → lays k y e c layout ≡ true
+-- Whether an event gets as far as its write: memory isn't wanting, and a request could read its
+-- document.
+abbrev pub goes_on : {L : Type 0} → Event L → Chance → Bool
+goes_on (Requests request now) chance = not (lacks_memory chance) && not (fails_read chance)
+goes_on (Polls ticket) chance = not (lacks_memory chance)
+goes_on (Forgets ticket) chance = not (lacks_memory chance)
+goes_on (Hears sent) chance = not (lacks_memory chance)
+goes_on Speaks chance = not (lacks_memory chance)
+goes_on TellsChange chance = not (lacks_memory chance)
+goes_on (Ticks now) chance = not (lacks_memory chance)
+goes_on Flushes chance = not (lacks_memory chance)
+goes_on (Cleans most) chance = not (lacks_memory chance)
+goes_on (Fences term) chance = not (lacks_memory chance)
+goes_on (Promotes term answers weak) chance = not (lacks_memory chance)
+goes_on (SetsState state) chance = not (lacks_memory chance)
 
--- An opening that raises a pair leaves a layout that an opening may leave.
-abbrev pub IsOpened : {L Y : Type 0} → LayoutKind Y → Pair L Y → Y → Type 0
-IsOpened y d layout = is_spent d ≡ false → y.opens d.layout layout ≡ true
+-- An event that gets as far as a write leaves a layout that what it writes may leave.
+abbrev pub IsLaid :
+    {L Y : Type 0} → LogKind L → LayoutKind Y → Luck Y → Event L → Copy L Y → Type 0
+IsLaid k y luck e c =
+    writes k y e c ≡ true → goes_on e luck.chance ≡ true → lays k y e c luck.layout ≡ true
+
+-- whether an opening may raise a pair: it goes well and the pair isn't spent, or it stops
+abbrev pub raises : {L Y : Type 0} → Chance → Pair L Y → Bool
+raises Fine d = not (is_spent d)
+raises ReadFails d = true
+raises DiskFails d = true
+raises NoMemory d = true
+
+-- An opening that may raise a pair leaves a layout that an opening may leave.
+abbrev pub IsOpened : {L Y : Type 0} → LayoutKind Y → Luck Y → Pair L Y → Type 0
+IsOpened y luck d = raises luck.chance d ≡ true → y.opens d.layout luck.layout ≡ true
+
+-- A new copy has the layout of an empty store.
+abbrev pub IsBegun : {Y : Type 0} → LayoutKind Y → Y → Type 0
+IsBegun y layout = y.begins layout ≡ true
 
 -- whether the disk failed an event
 abbrev pub is_faulted : Chance → Bool
@@ -65,5 +93,5 @@ pub record May
     {L Y : Type 0} (k : LogKind L) (y : LayoutKind Y) (e : Event L) (c new : Copy L Y)
     (told : Told L) : Type 0 where
   pub luck : Luck Y
-  pub laid : IsLaid k y e c luck.layout
+  pub laid : IsLaid k y luck e c
   pub goes : step k y luck e c ≡ (new, told)

@@ -46,7 +46,7 @@ use Rattle.copy_model.specs.Disk.{Put, Done, NoRoom, Failed, flushed_first}
 
 -- ---- moments and CAS
 
--- a moment, of which the last ones aren't told apart
+-- a moment; one behind the last is taken as the last
 abbrev pub moment_of : ℕ → ℕ
 moment_of now = min now LAST_MOMENT
 

@@ -7,8 +7,10 @@
 //! | Event | What it does | Where |
 //! |---|---|---|
 //! | a request | checks in their order, the document's or the manifest's step, an entry | `Requests` |
-//! | a poll | answers a ticket whose prepare was decided | `Requests` |
+//! | a poll | answers a ticket unless its prepare waits | `Requests` |
+//! | a ticket is forgotten | it isn't open any more | `Requests` |
 //! | a message | an entry, all of a log, or how far another copy is | `Hearing` |
+//! | a message or a change is asked for | hands out the oldest | `Events` |
 //! | a tick | gives up what waited too long, and commits what is ready | `Events` |
 //! | a flush | puts the log on disk | `Disk` |
 //! | a cleaning | moves what is live, or frees a segment | `Events` |
@@ -33,7 +35,7 @@
 //!
 //! # A worked run
 //!
-//! A copy at place 0 of a chain of two, promoted at the term 4 on an empty log:
+//! A copy at place 0 of a chain of two named places, promoted at the term 4 on an empty log:
 //!
 //! | Event | Its log | What it says | What its caller is told |
 //! |---|---|---|---|

@@ -2,7 +2,7 @@
 
 ghost use Rattle.std.specs.Prelude.{◌≡◌, ◌+◌, ◌^◌};
 
-/// The last moment that is told apart from later ones, in milliseconds since 1970.
+/// The last moment there is, in milliseconds since 1970: a later one is taken as this.
 pub const LAST_MOMENT: u64 = (1 << 42) - 1;
 
 /// With this many entries in the log no request changes anything any more.
@@ -11,10 +11,10 @@ pub const REQUEST_LIMIT: u64 = 1 << 40;
 /// The first CAS that isn't drawn any more.
 pub const CAS_LIMIT: u64 = 1 << 63;
 
-/// With this many entries that aren't on disk a change begins with a flush.
+/// With this many entries added one by one since the last flush a change begins with a flush.
 pub const UNFLUSHED_ENTRIES: u64 = 16_384;
 
-/// With this many bytes of entries that aren't on disk a change begins with a flush.
+/// With this many bytes of such entries a change begins with a flush.
 pub const UNFLUSHED_BYTES: u64 = 67_108_864;
 
 /// With this promise or incarnation, or a greater one, a copy isn't opened any more.

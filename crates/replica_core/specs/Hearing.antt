@@ -20,7 +20,7 @@ heard_next core head =
     if nat_le head.first core.length then hearing.Acknowledge
     else (if nat_eq head.first (core.length + 1) then hearing.Append else hearing.AskRejoin)
 
--- an Entry: one of another term brings nothing
+-- an Entry: one of another term is answered by asking for all
 abbrev pub heard_entry : CopyCore → MessageHead → Heard
 heard_entry core head =
     if nat_eq head.term core.accepted then heard_next core head else hearing.AskRejoin

@@ -7,7 +7,7 @@ pub enum Role {
     Active,
     /// It takes what the active sends.
     Replica,
-    /// A replica that isn't one of those which a client may ask.
+    /// It was made so by a state, and takes what the active sends as a replica does.
     Pending,
     /// Its disk failed, or it was told to be dead; it does nothing until it is opened again.
     Dead,
@@ -30,6 +30,6 @@ pub struct CopyCore {
     pub length: u64,
     /// Whether nothing that the copy acknowledged is lost.
     pub whole: bool,
-    /// How often the copy was opened, from 1.
+    /// The number of its opening, from 1; one that stopped may count.
     pub incarnation: u64,
 }

@@ -9,7 +9,7 @@ pub struct FenceAnswer {
     pub accepted: u64,
     /// How many entries that log has.
     pub length: u64,
-    /// How often the copy was opened.
+    /// The number of the copy's opening.
     pub incarnation: u64,
     /// Whether nothing that the copy acknowledged is lost.
     pub whole: bool,
@@ -25,7 +25,8 @@ pub enum PromoteFault {
     Old,
     /// Fewer than a majority of the named places answered.
     Few,
-    /// An answer isn't one for this promotion, or the copy's own isn't there as it would be now.
+    /// An answer isn't one for this promotion, the copy's own isn't there as it would be now, or its
+    /// promise isn't the term.
     Foreign,
     /// An answer is of a copy that has a later log, or more of the same.
     NotLongest,

@@ -35,7 +35,7 @@
 //! | Entry | ignores it | appends it, acknowledges it where it has it, or asks to rejoin |
 //! | Ack | counts it | asks to rejoin, unless it is whole and has as much of that term |
 //! | Rejoin | gives all that it has | ignores it |
-//! | Adopt | ignores it | takes all of it, or is whole where it has as much |
+//! | Adopt | ignores it | takes all of it, or is whole where it has as much; one for another opening is ignored |
 //!
 //! An active copy hears messages of its own term, another those of the owner of a term that is at
 //! least its promise, a dead one none; and all hear places that the chain names alone
