@@ -1,11 +1,13 @@
-//! Laws of a copy's steps.
+//! Laws of a copy's steps on whole logs and on what they come to.
 
 ghost use Rattle.std.specs.Prelude.{◌≡◌, List};
 ghost use Rattle.vb_log.specs.declared.entry.Entry.{Entry};
+ghost use Rattle.vb_log.specs.Content.{Content};
 ghost use Rattle.vb_log.specs.Logs.{whole_logs, folds};
 ghost use Rattle.copy_model.specs.Copies.{Copy, LayoutKind, Luck};
-ghost use Rattle.copy_model.specs.Events.{Event, step};
-ghost use Rattle.copy_model.specs.Folded.{folded, folded_event, folded_after};
+ghost use Rattle.copy_model.specs.Events.{Event, Told, step};
+ghost use Rattle.copy_model.specs.Laying.{May};
+ghost use Rattle.copy_model.specs.Folded.{folded, folded_event, folded_told, folded_after};
 
 /// An event on a copy with its whole log comes to the same as on the copy with what the log comes
 /// to, in any layout.
@@ -14,4 +16,19 @@ pub fn steps_fold<Y>()
         (c : Copy (List Entry) Y) →
         folded_after whole_logs (step whole_logs y luck e c)
         ≡ step folds y luck (folded_event whole_logs e) (folded whole_logs c) }
+{}
+
+/// What a copy with its whole log may become by an event, a copy with what the log comes to may
+/// become by it (`folds_may`); and what that may become, some copy with its whole log may
+/// (`wholes_may`).
+pub fn copies_may_the_same<Y>()
+    ensures folds_may { (y : LayoutKind Y) (e : Event (List Entry)) (c new : Copy (List Entry) Y)
+        (told : Told (List Entry)) → May whole_logs y e c new told →
+        May folds y (folded_event whole_logs e) (folded whole_logs c) (folded whole_logs new)
+        (folded_told whole_logs told) }
+    ensures wholes_may { (y : LayoutKind Y) (e : Event (List Entry)) (c : Copy (List Entry) Y)
+        (d : Copy Content Y) (told : Told Content) →
+        May folds y (folded_event whole_logs e) (folded whole_logs c) d told →
+        (r : Copy (List Entry) Y × Told (List Entry)) × May whole_logs y e c r.0 r.1
+        × (folded_after whole_logs r ≡ (d, told)) }
 {}

@@ -51,7 +51,7 @@ mod laws;
 mod limits;
 mod outcome;
 
-pub use laws::steps_fold;
+pub use laws::{copies_may_the_same, steps_fold};
 pub use limits::{
     CAS_LIMIT, LAST_MOMENT, REQUEST_LIMIT, SPENT, UNFLUSHED_BYTES, UNFLUSHED_ENTRIES, copy_numbers,
 };
