@@ -8,3 +8,4 @@ pub mod Events
 pub mod Openings
 pub mod Laying
 pub mod Folded
+pub mod Grown

@@ -49,10 +49,14 @@
 
 mod laws;
 mod limits;
+mod log_laws;
 mod outcome;
 
 pub use laws::{copies_may_the_same, steps_fold};
 pub use limits::{
     CAS_LIMIT, LAST_MOMENT, REQUEST_LIMIT, SPENT, UNFLUSHED_BYTES, UNFLUSHED_ENTRIES, copy_numbers,
+};
+pub use log_laws::{
+    logs_only_grow, only_a_rightful_promotion_makes_active, promises_rise, success_means_it_stands,
 };
 pub use outcome::{Outcome, Polled, Ticket, VbFault};

@@ -1,0 +1,52 @@
+//! Laws of what a copy tells of durable writes, of how it becomes active, and of its log.
+
+ghost use Rattle.std.specs.Prelude.{◌≡◌, ◌≢◌, ◌↔◌, ◌≤◌, false, true, List, Some};
+ghost use Rattle.kv_request.specs.declared.reply.Reply.{Reply};
+ghost use Rattle.doc_model.specs.declared.status.TheConstants.Status as status;
+ghost use Rattle.vb_log.specs.declared.entry.Entry.{Entry};
+ghost use Rattle.vb_log.specs.Logs.{whole_logs};
+ghost use Rattle.replica_core.specs.Terms.{is_active};
+ghost use Rattle.copy_model.specs.declared.outcome.Ticket.{Ticket};
+ghost use Rattle.copy_model.specs.declared.outcome.Polled.TheVariants as polls;
+ghost use Rattle.copy_model.specs.Copies.{Waiting, Copy, LayoutKind, Luck};
+ghost use Rattle.copy_model.specs.Requests.{fate_of, polled};
+ghost use Rattle.copy_model.specs.Events.{Event, step};
+ghost use Rattle.copy_model.specs.Grown.{TellsWhere, IsPromoted, IsLonger, hears_all};
+
+/// A durable write is answered with another status than `SYNC_WRITE_AMBIGUOUS` only where its
+/// Commit stands in the log, and the reply then tells the position of the Commit. A ticket is
+/// pending exactly while nothing is decided of its prepare.
+pub fn success_means_it_stands<L, Y>()
+    ensures stands { (ticket : Ticket) (c : Copy L Y) (reply : Reply) →
+        (polled ticket c).1 ≡ polls.Done reply →
+        reply.status ≢ status.SYNC_WRITE_AMBIGUOUS →
+        TellsWhere ticket (fate_of ticket c) reply }
+    ensures waits { (ticket : Ticket) (c : Copy L Y) (next : Ticket) →
+        ((polled ticket c).1 ≡ polls.Pending next)
+        ↔ ((fate_of ticket c ≡ Some Waiting) × (next ≡ ticket)) }
+{}
+
+/// A copy that isn't active becomes active only by a promotion, and only by one whose answers allow
+/// it; its log is then one of the promotion's term.
+pub fn only_a_rightful_promotion_makes_active<Y>()
+    ensures { (y : LayoutKind Y) (luck : Luck Y) (e : Event (List Entry))
+        (c : Copy (List Entry) Y) →
+        is_active c.role ≡ false →
+        is_active (step whole_logs y luck e c).0.role ≡ true →
+        IsPromoted e c (step whole_logs y luck e c).0 }
+{}
+
+/// No event takes an entry out of a copy's log or puts one before another: the log goes on from
+/// what it was. Only a message that brings all of a log may put another one in its place.
+pub fn logs_only_grow<Y>()
+    ensures { (y : LayoutKind Y) (luck : Luck Y) (e : Event (List Entry))
+        (c : Copy (List Entry) Y) →
+        hears_all e ≡ false → IsLonger c.log (step whole_logs y luck e c).0.log }
+{}
+
+/// A copy never goes back on its promise: no event lowers the term below which it takes nothing.
+pub fn promises_rise<Y>()
+    ensures { (y : LayoutKind Y) (luck : Luck Y) (e : Event (List Entry))
+        (c : Copy (List Entry) Y) →
+        c.promise ≤ (step whole_logs y luck e c).0.promise }
+{}
