@@ -45,10 +45,12 @@
 //! | Get of `a` | the same | | the document |
 #![tactic(auto)]
 
+mod disk_laws;
 mod laws;
 mod limits;
 mod outcome;
 
+pub use disk_laws::dead_copies_stay;
 pub use laws::steps_fold;
 pub use limits::{
     CAS_LIMIT, LAST_MOMENT, REQUEST_LIMIT, SPENT, UNFLUSHED_BYTES, UNFLUSHED_ENTRIES, copy_numbers,
