@@ -1,12 +1,12 @@
 -- The laws of what a copy's steps leave on its disk.
-use Rattle.std.specs.Prelude.{◌≡◌, is_some, Bool, true, false, not, ◌&&◌, ◌⊎◌, Option, Some, None, refl}
+use Rattle.std.specs.Prelude.{◌≡◌, is_some, Bool, true, false, not, ◌&&◌, ◌⊎◌, Option, None, refl}
 use Rattle.std.proofs.Common.{sym, ◌∙◌, ap, inl, inr}
 use Rattle.vb_log.specs.Logs.{LogKind}
 use Rattle.replica_core.specs.Terms.{is_dead}
 use Rattle.copy_model.specs.Copies.{Pair, Copy, DiskFails, LayoutKind, Luck}
 use Rattle.copy_model.specs.Events.{Event, step}
 use Rattle.copy_model.specs.Laying.{writes}
-use Rattle.copy_model.proofs.Dead.{Unmoved, step_dead}
+use Rattle.copy_model.proofs.Dead.{step_dead}
 use Rattle.copy_model.proofs.Written.{Keeps, Fares, Stays, Stops, Writes, Tears}
 use Rattle.copy_model.proofs.Stepped.{step_fares}
 

@@ -1,7 +1,6 @@
 -- What each event leaves on a copy's disk, beside what it would if the disk failed at once.
-use Rattle.std.specs.Prelude.{◌≡◌, ℕ, ◌+◌, nat_eq, nat_lt, is_some, Bool, true, false, cond, not, ◌&&◌, ◌||◌, is_none, List, [], ◌∷◌, Option, Some, None, Result, Ok, Err, refl}
+use Rattle.std.specs.Prelude.{ℕ, ◌+◌, nat_eq, nat_lt, not, ◌&&◌, ◌||◌, is_none, List, [], ◌∷◌, Option, Some, None, Result, Ok, Err, refl}
 use Rattle.std.specs.Option.{option_map_or}
-use Rattle.std.proofs.Common.{◌∙◌, ap}
 use Rattle.doc_model.specs.declared.document.What.{What}
 use Rattle.doc_model.specs.declared.status.Status.{Status}
 use Rattle.kv_request.specs.declared.request.Request.{Request}
@@ -9,7 +8,7 @@ use Rattle.kv_request.specs.declared.request.Durability.{Durability}
 use Rattle.kv_request.specs.declared.request.Body.{Body}
 use Rattle.kv_request.specs.declared.request.Body.TheVariants as bodies
 use Rattle.kv_request.specs.declared.reply.Reply.{Reply}
-use Rattle.kv_request.specs.Tables.{document_key, first_failing}
+use Rattle.kv_request.specs.Tables.{document_key}
 use Rattle.manifest_rules.specs.Rules.{Step}
 use Rattle.manifest_rules.specs.Applying.{text_step}
 use Rattle.doc_step.specs.declared.Change.{Change}
@@ -28,11 +27,10 @@ use Rattle.replica_core.specs.Promotion.{is_old, promote_fault}
 use Rattle.copy_model.specs.declared.outcome.Ticket.{Ticket}
 use Rattle.copy_model.specs.declared.outcome.Outcome.{Outcome}
 use Rattle.copy_model.specs.declared.outcome.VbFault.{VbFault}
-use Rattle.copy_model.specs.Copies.{Fate, Waiting, Stood, Aborted, Left, Message, EntrySent, AckSent, RejoinSent, AdoptSent, Sent, Seen, Pair, Copy, Cleaning, Nothing, Moved, Freed, NoRoomToMove, LayoutKind, Luck, lacks_memory, fails_disk, fails_read}
+use Rattle.copy_model.specs.Copies.{Fate, Waiting, Stood, Aborted, Left, Message, EntrySent, AckSent, RejoinSent, AdoptSent, Sent, Seen, Copy, Cleaning, Nothing, Moved, Freed, NoRoomToMove, LayoutKind, Luck, lacks_memory, fails_disk, fails_read}
 use Rattle.copy_model.specs.Entries.{content, core_of, aborted, settled, counting, in_role}
-use Rattle.copy_model.specs.Disk.{Put, Done, NoRoom, Failed, write_promise}
 use Rattle.copy_model.specs.Requests.{moment_of, seeing, drawn, polled_as, polled, fate_of, is_too_much, after_put, changing, made, ticket_next, preparing, prepared, what_of, plain_entry, changing_document, is_inherited, is_write, effecting, concluded, step_on, served, installed, set_by, if_active, body_step, requested, refusal}
-use Rattle.copy_model.specs.Hearing.{head_of, put_or, begins_with_flush, can_append, appended, appending, can_hold, taken, promising, adopting, giving, append_it, take_it, count_it, give_it, doing, is_for, hearing_it}
+use Rattle.copy_model.specs.Hearing.{head_of, put_or, begins_with_flush, can_append, appended, appending, can_hold, taken, adopting, giving, append_it, take_it, count_it, give_it, doing, is_for, hearing_it}
 use Rattle.copy_model.specs.Events.{if_alive, put_told, speaks_first, tells_first, due, aborting, telling_all, ticking, flushed_to, cleaning_as, answering, fencing, active_at, begun_at, promoting, put_in_state, nothing, Event, Requests, Polls, Forgets, Hears, Speaks, TellsChange, Ticks, Flushes, Cleans, Fences, Promotes, SetsState, step}
 use Rattle.copy_model.proofs.Dead.{if_one}
 use Rattle.copy_model.proofs.Written.{if_both, Keeps, Fares, Stays, Stops, Writes, Tears, Handles, fails, keeps, keeps_on, settled_keeps, write_promise_fares, write_log_fares, flushing_fares, flushed_first_fares}

@@ -1,12 +1,9 @@
 -- What a copy's steps leave on its disk, beside what they would if the disk failed at once.
-use Rattle.std.specs.Prelude.{◌≡◌, ℕ, ◌+◌, nat_eq, nat_lt, is_some, Bool, true, false, cond, not, ◌&&◌, ◌||◌, is_none, List, [], ◌∷◌, Option, Some, None, Result, Ok, Err, refl}
-use Rattle.std.specs.Option.{option_map_or}
+use Rattle.std.specs.Prelude.{◌≡◌, ℕ, nat_lt, is_some, Bool, true, false, cond, List, [], ◌∷◌, Option, Some, None, refl}
 use Rattle.std.proofs.Common.{◌∙◌, ap}
-use Rattle.vb_log.specs.declared.entry.Entry.{Entry}
 use Rattle.vb_log.specs.declared.entry.Pending.{Pending}
 use Rattle.vb_log.specs.Logs.{LogKind}
 use Rattle.replica_core.specs.Terms.{is_active, is_dead}
-use Rattle.copy_model.specs.declared.outcome.Outcome.{Outcome}
 use Rattle.copy_model.specs.Copies.{Pair, Copy, DiskFails, LayoutKind, Luck, fails_disk}
 use Rattle.copy_model.specs.Entries.{is_ready_at, committed, committing, content, settled}
 use Rattle.copy_model.specs.Disk.{Put, Done, NoRoom, Failed, put_then, dead_with, promised, write_promise, pair_at, needed, free, on_disk, write_log, tells_flush, after_flush, flushing, must_flush, flushed_first}
