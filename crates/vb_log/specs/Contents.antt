@@ -1,0 +1,101 @@
+-- The bytes of a content.
+use Rattle.std.specs.Prelude.{◌≡◌, ℕ, zero, suc, ◌-◌, ◌≤◌, ◌<◌, ◌^◌, Bool, true, ◌&&◌, List, ◌++◌, length, All, IsTrue, Option, Some, None}
+use Rattle.std.specs.List.{flat_map}
+use Rattle.std.specs.Int.{w32, w64, to_be_bytes}
+use Rattle.std.specs.Ordering.{is_lt}
+use Rattle.std.specs.FinMap as map
+use Rattle.doc_model.specs.declared.key.DocKey.{DocKey}
+use Rattle.doc_model.specs.declared.document.Item.{Item}
+use Rattle.doc_model.specs.declared.document.What.{What}
+use Rattle.doc_model.specs.declared.document.What.TheVariants as whats
+use Rattle.doc_model.specs.Keys.{key_cmp}
+use Rattle.manifest_rules.specs.Catalog.{Catalog}
+use Rattle.manifest_rules.specs.State.{is_kept, state_of}
+use Rattle.vb_log.specs.declared.limits.TheConstants.{GREATEST_CAS, GREATEST_POSITION, SPELT_KEY_LIMIT}
+use Rattle.vb_log.specs.Content.{Content, has_collection}
+use Rattle.vb_log.specs.Keys.{IsAllowedKey, key_bytes}
+use Rattle.vb_log.specs.Layout.{Layout, end, byte, number, key_field, state_field, four, eight}
+use Rattle.vb_log.specs.Prepares.{IsPendingUpTo, pending_bytes, pending_layout}
+use Rattle.vb_log.specs.Spelling.{IsAllowedWhat, what_bytes, cas_layout, what_layout}
+
+-- ---- what is allowed
+
+-- a document has this sequence number
+abbrev pub IsNumbered : ℕ → What → Type 0
+IsNumbered seqno (whats.Put doc) = doc.seqno ≡ seqno
+IsNumbered seqno (whats.Remove cas) = Unit {0}
+
+-- an item of a collection that is there, made no later than at a position
+pub record IsAllowedItem (manifest : Catalog) (last : ℕ) (item : Item) : Type 0 where
+  pub key : IsAllowedKey item.key
+  pub present : IsTrue (has_collection manifest item.key.collection)
+  pub later : 1 ≤ item.seqno
+  pub within : item.seqno ≤ last
+  pub what : IsAllowedWhat item.what
+  pub numbered : IsNumbered item.seqno item.what
+
+-- a content whose parts keep their limits
+pub record HasBytes (c : Content) : Type 0 where
+  pub short : c.length ≤ GREATEST_POSITION
+  pub cas : c.greatest_cas ≤ GREATEST_CAS
+  pub kept : IsTrue (is_kept c.manifest)
+  pub keyed : All (λ e. e.0 ≡ e.1.key) (map.entries c.items)
+  pub items : All (IsAllowedItem c.manifest c.length) (map.values c.items)
+  pub few : map.len c.items < 2 ^ 32
+  pub prepares : IsPendingUpTo c.length c.prepares
+
+-- ---- bytes
+
+-- an item: its key, its sequence number, what the key has
+abbrev pub item_bytes : Item → List ℕ
+item_bytes item = key_bytes item.key ++ (to_be_bytes w64 item.seqno ++ what_bytes item.what)
+
+-- their count, and one after another
+abbrev pub items_bytes : List Item → List ℕ
+items_bytes items = to_be_bytes w32 (length items) ++ flat_map item_bytes items
+
+-- A content: its length, its greatest CAS, the state of its manifest, its items in rising order of
+-- their keys, the changes that wait.
+abbrev pub content_bytes : Content → List ℕ
+content_bytes c =
+    to_be_bytes w64 c.length
+    ++ (to_be_bytes w64 c.greatest_cas
+    ++ (state_of c.manifest ++ (items_bytes (map.values c.items) ++ pending_bytes c.prepares)))
+
+-- a content has these bytes
+pub record IsContent (c : Content) (bytes : List ℕ) : Type 0 where
+  pub allowed : HasBytes c
+  pub spelled : bytes ≡ content_bytes c
+
+-- ---- the layout
+
+-- whether a key comes behind the one before it, where there is one
+abbrev pub is_later : Option DocKey → DocKey → Bool
+is_later None key = true
+is_later (Some before) key = is_lt (key_cmp before key)
+
+-- whether a key may be the next: it comes behind the one before it, and its collection is there
+abbrev pub may_follow : Catalog → Option DocKey → DocKey → Bool
+may_follow manifest before key = is_later before key && has_collection manifest key.collection
+
+-- an item; what follows may depend on its key
+abbrev pub item_layout : Catalog → ℕ → Option DocKey → (DocKey → Layout) → Layout
+item_layout manifest last before next =
+    byte 0 SPELT_KEY_LIMIT (λ size. key_field size (may_follow manifest before)
+    (λ key. number eight 1 last (λ seqno. what_layout (next key))))
+
+-- so many of them, in rising order of their keys
+abbrev pub all_items_layout : ℕ → Catalog → ℕ → Option DocKey → Layout → Layout
+all_items_layout zero manifest last before next = next
+all_items_layout (suc count) manifest last before next =
+    item_layout manifest last before (λ key. all_items_layout count manifest last (Some key) next)
+
+-- their count, and one after another
+abbrev pub items_layout : Catalog → ℕ → Layout → Layout
+items_layout manifest last next =
+    number four 0 (2 ^ 32 - 1) (λ count. all_items_layout count manifest last None next)
+
+-- the layout of a content
+abbrev pub content_layout : Layout
+content_layout =
+    number eight 0 GREATEST_POSITION (λ last. cas_layout (state_field (λ manifest. items_layout manifest last (pending_layout last end))))
