@@ -7,3 +7,4 @@ pub mod Spelt
 pub mod Layouts
 pub mod Pieces
 pub mod Entries
+pub mod Prepared

@@ -11,12 +11,13 @@ use Rattle.doc_model.specs.declared.document.What.TheVariants as whats
 use Rattle.doc_model.specs.Keys.{key_cmp}
 use Rattle.manifest_rules.specs.Catalog.{Catalog}
 use Rattle.manifest_rules.specs.State.{is_kept, state_of}
+use Rattle.vb_log.specs.declared.bounds.Bounds.{Bounds}
 use Rattle.vb_log.specs.declared.limits.TheConstants.{GREATEST_CAS, GREATEST_POSITION, SPELT_KEY_LIMIT}
-use Rattle.vb_log.specs.Content.{Content, has_collection}
+use Rattle.vb_log.specs.Content.{Content, cas_of, has_collection}
 use Rattle.vb_log.specs.Keys.{IsAllowedKey, key_bytes}
 use Rattle.vb_log.specs.Layout.{Layout, end, byte, number, key_field, state_field, four, eight}
-use Rattle.vb_log.specs.Prepares.{IsPendingUpTo, pending_bytes, pending_layout}
-use Rattle.vb_log.specs.Spelling.{IsAllowedWhat, what_bytes, cas_layout, what_layout}
+use Rattle.vb_log.specs.Prepares.{IsPendingWithin, pending_bytes, pending_layout}
+use Rattle.vb_log.specs.Spelling.{IsAllowedWhat, what_bytes, what_layout}
 
 -- ---- what is allowed
 
@@ -25,14 +26,19 @@ abbrev pub IsNumbered : ℕ → What → Type 0
 IsNumbered seqno (whats.Put doc) = doc.seqno ≡ seqno
 IsNumbered seqno (whats.Remove cas) = Unit {0}
 
--- an item of a collection that is there, made no later than at a position
-pub record IsAllowedItem (manifest : Catalog) (last : ℕ) (item : Item) : Type 0 where
+-- an item within bounds, of a collection that is there
+pub record IsAllowedItem (manifest : Catalog) (bounds : Bounds) (item : Item) : Type 0 where
   pub key : IsAllowedKey item.key
   pub present : IsTrue (has_collection manifest item.key.collection)
   pub later : 1 ≤ item.seqno
-  pub within : item.seqno ≤ last
+  pub within : item.seqno ≤ bounds.last
   pub what : IsAllowedWhat item.what
+  pub cas : cas_of item.what ≤ bounds.cas
   pub numbered : IsNumbered item.seqno item.what
+
+-- what no part of a content passes
+abbrev pub bounds_of : Content → Bounds
+bounds_of c = record { last = c.length; cas = c.greatest_cas }
 
 -- a content whose parts keep their limits
 pub record HasBytes (c : Content) : Type 0 where
@@ -40,9 +46,9 @@ pub record HasBytes (c : Content) : Type 0 where
   pub cas : c.greatest_cas ≤ GREATEST_CAS
   pub kept : IsTrue (is_kept c.manifest)
   pub keyed : All (λ e. e.0 ≡ e.1.key) (map.entries c.items)
-  pub items : All (IsAllowedItem c.manifest c.length) (map.values c.items)
+  pub items : All (IsAllowedItem c.manifest (bounds_of c)) (map.values c.items)
   pub few : map.len c.items < 2 ^ 32
-  pub prepares : IsPendingUpTo c.length c.prepares
+  pub prepares : IsPendingWithin (bounds_of c) c.prepares
 
 -- ---- bytes
 
@@ -79,23 +85,29 @@ abbrev pub may_follow : Catalog → Option DocKey → DocKey → Bool
 may_follow manifest before key = is_later before key && has_collection manifest key.collection
 
 -- an item; what follows may depend on its key
-abbrev pub item_layout : Catalog → ℕ → Option DocKey → (DocKey → Layout) → Layout
-item_layout manifest last before next =
-    byte 0 SPELT_KEY_LIMIT (λ size. key_field size (may_follow manifest before)
-    (λ key. number eight 1 last (λ seqno. what_layout (next key))))
+abbrev pub item_layout : Catalog → Bounds → Option DocKey → (DocKey → Layout) → Layout
+item_layout manifest bounds before next =
+    byte 0 SPELT_KEY_LIMIT (λ size. key_field size (may_follow manifest before) (λ key.
+    number eight 1 bounds.last (λ seqno. what_layout bounds.cas (next key))))
 
 -- so many of them, in rising order of their keys
-abbrev pub all_items_layout : ℕ → Catalog → ℕ → Option DocKey → Layout → Layout
-all_items_layout zero manifest last before next = next
-all_items_layout (suc count) manifest last before next =
-    item_layout manifest last before (λ key. all_items_layout count manifest last (Some key) next)
+abbrev pub all_items_layout : Catalog → Bounds → ℕ → Option DocKey → Layout → Layout
+all_items_layout manifest bounds zero before next = next
+all_items_layout manifest bounds (suc count) before next =
+    item_layout manifest bounds before (λ key. all_items_layout manifest bounds count (Some key) next)
 
 -- their count, and one after another
-abbrev pub items_layout : Catalog → ℕ → Layout → Layout
-items_layout manifest last next =
-    number four 0 (2 ^ 32 - 1) (λ count. all_items_layout count manifest last None next)
+abbrev pub items_layout : Catalog → Bounds → Layout → Layout
+items_layout manifest bounds next =
+    number four 0 (2 ^ 32 - 1) (λ count. all_items_layout manifest bounds count None next)
+
+-- what follows the length and the greatest CAS, which no other part passes
+abbrev pub body_layout : Bounds → Layout
+body_layout bounds =
+    state_field (λ manifest. items_layout manifest bounds (pending_layout bounds end))
 
 -- the layout of a content
 abbrev pub content_layout : Layout
 content_layout =
-    number eight 0 GREATEST_POSITION (λ last. cas_layout (state_field (λ manifest. items_layout manifest last (pending_layout last end))))
+    number eight 0 GREATEST_POSITION (λ last.
+    number eight 0 GREATEST_CAS (λ cas. body_layout (record { last = last; cas = cas })))

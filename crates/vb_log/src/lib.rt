@@ -108,6 +108,7 @@
 //! | `04 0000000000000001 00` | `Bad(9)`: a byte behind the position |
 #![tactic(auto)]
 
+mod bounds;
 mod documents;
 mod entry;
 mod fields;
@@ -115,6 +116,7 @@ mod keys;
 mod kinds;
 mod laws;
 mod limits;
+mod pending;
 mod reading;
 mod writing;
 
@@ -129,6 +131,7 @@ pub use limits::{
     CONTENT_LIMIT, GREATEST_CAS, GREATEST_LEVEL, GREATEST_POSITION, ITEM_OVERHEAD, LOG_LIMIT,
     SECTION_LIMIT, SPELT_KEY_LIMIT, SUM_LIMIT, log_numbers,
 };
+pub use pending::{pending_into, read_pending};
 pub use reading::{ContentFault, read_entry};
 pub use writing::entry_into;
 
