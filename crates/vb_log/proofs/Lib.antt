@@ -8,3 +8,4 @@ pub mod Layouts
 pub mod Pieces
 pub mod Entries
 pub mod Prepared
+pub mod Ordered

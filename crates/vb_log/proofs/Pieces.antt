@@ -70,7 +70,7 @@ sized_refused most form next bytes piece rest fits at none =
 
 -- ---- keys
 
-key_fits : (key : DocKey) → IsAllowedKey key → length (spelt_key key) ≤ SPELT_KEY_LIMIT
+pub key_fits : (key : DocKey) → IsAllowedKey key → length (spelt_key key) ≤ SPELT_KEY_LIMIT
 key_fits key h = go (nat_eq key.collection 0) refl h.short
   where
     whole : length (spelt_key key) ≡ length (id_bytes key.collection) + length key.key

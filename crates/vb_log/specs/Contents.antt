@@ -1,5 +1,5 @@
 -- The bytes of a content.
-use Rattle.std.specs.Prelude.{◌≡◌, ℕ, zero, suc, ◌-◌, ◌≤◌, ◌<◌, ◌^◌, Bool, true, ◌&&◌, List, ◌++◌, length, All, IsTrue, Option, Some, None}
+use Rattle.std.specs.Prelude.{◌≡◌, ℕ, zero, suc, ◌-◌, ◌≤◌, ◌<◌, ◌^◌, Bool, true, ◌&&◌, List, [], ◌∷◌, ◌++◌, length, All, slice_get, option_map, IsTrue, Option, Some, None}
 use Rattle.std.specs.List.{flat_map}
 use Rattle.std.specs.Int.{w32, w64, to_be_bytes}
 use Rattle.std.specs.Ordering.{is_lt}
@@ -73,7 +73,7 @@ pub record IsContent (c : Content) (bytes : List ℕ) : Type 0 where
   pub allowed : HasBytes c
   pub spelled : bytes ≡ content_bytes c
 
--- ---- the layout
+-- ---- items in rising order of their keys
 
 -- whether a key comes behind the one before it, where there is one
 abbrev pub is_later : Option DocKey → DocKey → Bool
@@ -84,11 +84,33 @@ is_later (Some before) key = is_lt (key_cmp before key)
 abbrev pub may_follow : Catalog → Option DocKey → DocKey → Bool
 may_follow manifest before key = is_later before key && has_collection manifest key.collection
 
+-- an item whose key may be the next
+pub record IsNextItem (manifest : Catalog) (bounds : Bounds) (before : Option DocKey) (item : Item) : Type 0 where
+  pub allowed : IsAllowedItem manifest bounds item
+  pub later : IsTrue (is_later before item.key)
+
+-- items of which each may be the next
+abbrev pub AreItems : Catalog → Bounds → Option DocKey → List Item → Type 0
+AreItems manifest bounds before [] = Unit {0}
+AreItems manifest bounds before (i ∷ is) =
+    IsNextItem manifest bounds before i × AreItems manifest bounds (Some i.key) is
+
+-- they are as many as can be counted
+pub record AreItemsWithin (manifest : Catalog) (bounds : Bounds) (items : List Item) : Type 0 where
+  pub rising : AreItems manifest bounds None items
+  pub few : length items < 2 ^ 32
+
+-- ---- the layout
+
+-- a key that passes a test; what follows may depend on it
+abbrev pub passing_key_layout : (DocKey → Bool) → (DocKey → Layout) → Layout
+passing_key_layout test next = byte 0 SPELT_KEY_LIMIT (λ size. key_field size test next)
+
 -- an item; what follows may depend on its key
 abbrev pub item_layout : Catalog → Bounds → Option DocKey → (DocKey → Layout) → Layout
 item_layout manifest bounds before next =
-    byte 0 SPELT_KEY_LIMIT (λ size. key_field size (may_follow manifest before) (λ key.
-    number eight 1 bounds.last (λ seqno. what_layout bounds.cas (next key))))
+    passing_key_layout (may_follow manifest before) (λ key.
+    number eight 1 bounds.last (λ seqno. what_layout bounds.cas (next key)))
 
 -- so many of them, in rising order of their keys
 abbrev pub all_items_layout : Catalog → Bounds → ℕ → Option DocKey → Layout → Layout
@@ -111,3 +133,19 @@ abbrev pub content_layout : Layout
 content_layout =
     number eight 0 GREATEST_POSITION (λ last.
     number eight 0 GREATEST_CAS (λ cas. body_layout (record { last = last; cas = cas })))
+
+-- ---- reading
+
+-- the key of the last of some items
+abbrev pub last_key : List Item → Option DocKey
+last_key items = option_map (λ i. i.key) (slice_get items (length items - 1))
+
+-- an item whose key may be the next stands at the front
+pub record ItemAt (manifest : Catalog) (bounds : Bounds) (before : Option DocKey) (bytes : List ℕ) (item : Item) (rest : List ℕ) : Type 0 where
+  pub allowed : IsNextItem manifest bounds before item
+  pub front : bytes ≡ item_bytes item ++ rest
+
+-- items stand there
+pub record ItemsAt (manifest : Catalog) (bounds : Bounds) (bytes : List ℕ) (items : List Item) (rest : List ℕ) : Type 0 where
+  pub allowed : AreItemsWithin manifest bounds items
+  pub front : bytes ≡ items_bytes items ++ rest

@@ -112,6 +112,7 @@ mod bounds;
 mod documents;
 mod entry;
 mod fields;
+mod items;
 mod keys;
 mod kinds;
 mod laws;
