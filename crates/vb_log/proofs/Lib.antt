@@ -9,3 +9,4 @@ pub mod Pieces
 pub mod Entries
 pub mod Prepared
 pub mod Ordered
+pub mod StatePlaces

@@ -12,6 +12,8 @@ use Rattle.doc_model.specs.Keys.{key_cmp}
 use Rattle.manifest_rules.specs.Catalog.{Catalog}
 use Rattle.manifest_rules.specs.State.{is_kept, state_of}
 use Rattle.vb_log.specs.declared.bounds.Bounds.{Bounds}
+use Rattle.vb_log.specs.declared.contents.Body.{Body}
+use Rattle.vb_log.specs.declared.entry.Pending.{Pending}
 use Rattle.vb_log.specs.declared.limits.TheConstants.{GREATEST_CAS, GREATEST_POSITION, SPELT_KEY_LIMIT}
 use Rattle.vb_log.specs.Content.{Content, cas_of, has_collection}
 use Rattle.vb_log.specs.Keys.{IsAllowedKey, key_bytes}
@@ -60,13 +62,16 @@ item_bytes item = key_bytes item.key ++ (to_be_bytes w64 item.seqno ++ what_byte
 abbrev pub items_bytes : List Item → List ℕ
 items_bytes items = to_be_bytes w32 (length items) ++ flat_map item_bytes items
 
+-- the state of a manifest, items, changes that wait
+abbrev pub body_bytes : Catalog → List Item → List Pending → List ℕ
+body_bytes manifest items prepares = state_of manifest ++ (items_bytes items ++ pending_bytes prepares)
+
 -- A content: its length, its greatest CAS, the state of its manifest, its items in rising order of
 -- their keys, the changes that wait.
 abbrev pub content_bytes : Content → List ℕ
 content_bytes c =
     to_be_bytes w64 c.length
-    ++ (to_be_bytes w64 c.greatest_cas
-    ++ (state_of c.manifest ++ (items_bytes (map.values c.items) ++ pending_bytes c.prepares)))
+    ++ (to_be_bytes w64 c.greatest_cas ++ body_bytes c.manifest (map.values c.items) c.prepares)
 
 -- a content has these bytes
 pub record IsContent (c : Content) (bytes : List ℕ) : Type 0 where
@@ -149,3 +154,17 @@ pub record ItemAt (manifest : Catalog) (bounds : Bounds) (before : Option DocKey
 pub record ItemsAt (manifest : Catalog) (bounds : Bounds) (bytes : List ℕ) (items : List Item) (rest : List ℕ) : Type 0 where
   pub allowed : AreItemsWithin manifest bounds items
   pub front : bytes ≡ items_bytes items ++ rest
+
+-- a manifest, items and changes that wait stand there, and nothing follows
+pub record BodyAt (bounds : Bounds) (bytes : List ℕ) (body : Body) : Type 0 where
+  pub kept : IsTrue (is_kept body.manifest)
+  pub items : AreItemsWithin body.manifest bounds body.items
+  pub prepares : IsPendingWithin bounds body.prepares
+  pub whole : bytes ≡ body_bytes body.manifest body.items body.prepares
+
+-- the parts of a content stand there, and nothing follows
+pub record PartsAt (bytes : List ℕ) (bounds : Bounds) (body : Body) : Type 0 where
+  pub last : bounds.last ≤ GREATEST_POSITION
+  pub cas : bounds.cas ≤ GREATEST_CAS
+  pub whole : bytes ≡ to_be_bytes w64 bounds.last ++ (to_be_bytes w64 bounds.cas ++ body_bytes body.manifest body.items body.prepares)
+  pub parts : BodyAt bounds (body_bytes body.manifest body.items body.prepares) body

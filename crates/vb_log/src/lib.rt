@@ -109,6 +109,7 @@
 #![tactic(auto)]
 
 mod bounds;
+mod contents;
 mod documents;
 mod entry;
 mod fields;

@@ -159,7 +159,7 @@ fn is_manifest(alloc: Global, bytes: &[u8]) -> Result<bool, NoMemory>
 }
 
 /// Whether nothing follows.
-fn ended(rest: &[u8]) -> Result<(), FieldFault>
+pub(crate) fn ended(rest: &[u8]) -> Result<(), FieldFault>
     ensures found { OnOk result (rest.now ≡ []) }
     ensures broken { IfErr result (IsBroken end rest.now) }
 {
