@@ -13,7 +13,7 @@ use Rattle.vb_log.specs.Keys.{key_bytes}
 use Rattle.vb_log.specs.Layout.{Layout, end, run, as_value, four, eight, Fits, Breaks, NumberAt}
 use Rattle.vb_log.specs.Prepares.{widest, AreBounds, IsWaiting, AreWaiting, IsPendingWithin, IsAllowedPending, waiting_bytes, pending_bytes, waiting_layout, all_waiting_layout, pending_layout, WaitingAt, AllWaitingAt, PendingAt}
 use Rattle.vb_log.specs.Spelling.{what_bytes, key_layout, what_layout}
-use Rattle.vb_log.proofs.Layouts.{Same, same_byte, same_number, no_fit, left_within, Leads, leads_on, byte_leads, number_leads, broken_behind}
+use Rattle.vb_log.proofs.Layouts.{Same, same_byte, same_number, no_fit, one_place, left_within, Leads, leads_on, byte_leads, number_leads, broken_behind}
 use Rattle.vb_log.proofs.Pieces.{key_leads, what_leads}
 use Rattle.vb_log.proofs.Entries.{same_key, same_what}
 
@@ -211,3 +211,10 @@ pending_only bytes ps rest qs more at h e =
     let same = same_pending widest ps qs rest more widest_bounds at.allowed h (sym at.front ∙ e) in
     let size : length bytes - length rest ≡ length (pending_bytes ps) = omega (arith, ap length at.front, length-append (pending_bytes ps) rest) in
     (same.one, size ∙ ap (λ l. length (pending_bytes l)) same.one)
+
+pub pending_one_break : (bytes : List ℕ) (first second : ℕ) → PendingBreaksAt bytes first → PendingBreaksAt bytes second → first ≡ second
+pending_one_break bytes first second a b =
+    let same = one_place (pending_layout widest end) bytes a.left b.left (a.breaks end) (b.breaks end) in
+    let p = a.parts in
+    let q = b.parts in
+    omega arith
