@@ -8,5 +8,3 @@ pub mod Layouts
 pub mod Pieces
 pub mod Entries
 pub mod Prepared
-pub mod Ordered
-pub mod StatePlaces

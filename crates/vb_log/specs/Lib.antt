@@ -9,4 +9,3 @@ pub mod Spelling
 pub mod Faults
 pub mod Reading
 pub mod Prepares
-pub mod Contents

@@ -140,11 +140,9 @@
 #![tactic(auto)]
 
 mod bounds;
-mod contents;
 mod documents;
 mod entry;
 mod fields;
-mod items;
 mod keys;
 mod kinds;
 mod laws;
