@@ -12,6 +12,7 @@ use Rattle.doc_model.specs.declared.limits.TheConstants.{MANIFEST_LIMIT}
 use Rattle.vb_log.specs.declared.entry.Entry.{Entry}
 use Rattle.vb_log.specs.declared.entry.Entry.TheVariants as entries
 use Rattle.vb_log.specs.declared.limits.TheConstants.{GREATEST_CAS, GREATEST_LEVEL, GREATEST_POSITION}
+use Rattle.vb_log.specs.Content.{cas_of}
 use Rattle.vb_log.specs.Keys.{IsAllowedKey, spelt_key, key_bytes}
 use Rattle.vb_log.specs.Layout.{four, eight, as_manifest, end, Fits, Breaks}
 use Rattle.vb_log.specs.Spelling.{IsAllowedDoc, IsAllowedWhat, IsUnnumbered, IsAllowed, sized, doc_bytes, what_bytes, spelling, IsSpelled, key_layout, cas_layout, doc_layout, what_layout, position_layout, prepare_layout, parts_layout, entry_layout}
@@ -32,25 +33,30 @@ nothing l = sym (append-nil l)
 position_fits : (of : ℕ) → 1 ≤ of → of ≤ GREATEST_POSITION → Fits position_layout (to_be_bytes w64 of)
 position_fits of least most = (number_leads eight 1 GREATEST_POSITION (λ of. end) (to_be_bytes w64 of) of [] (record { front = nothing (to_be_bytes w64 of); above = least; below = most; small = omega arith })).fits refl
 
+-- the CAS of a change that the layout allows
+pub cas_allowed : (what : What) → IsAllowedWhat what → cas_of what ≤ GREATEST_CAS
+cas_allowed (whats.Put doc) h = h.cas
+cas_allowed (whats.Remove cas) h = h
+
 pub entry_fits : (e : Entry) → IsAllowed e → Fits entry_layout (spelling e)
 entry_fits (entries.Mutation key doc) h =
     parts_fit 1 (key_bytes key ++ doc_bytes doc) (omega arith) (omega arith)
-    ((leads_on (key_layout (doc_layout end)) (key_bytes key ++ doc_bytes doc) (doc_layout end) (doc_bytes doc) end []
-    (key_leads (doc_layout end) (key_bytes key ++ doc_bytes doc) key (doc_bytes doc) (record { allowed = h.0; front = refl }))
-    (doc_leads end (doc_bytes doc) doc [] (record { allowed = h.1; unnumbered = h.2; front = nothing (doc_bytes doc) }))).fits refl)
+    ((leads_on (key_layout (doc_layout GREATEST_CAS end)) (key_bytes key ++ doc_bytes doc) (doc_layout GREATEST_CAS end) (doc_bytes doc) end []
+    (key_leads (doc_layout GREATEST_CAS end) (key_bytes key ++ doc_bytes doc) key (doc_bytes doc) (record { allowed = h.0; front = refl }))
+    (doc_leads GREATEST_CAS end (doc_bytes doc) doc [] (record { allowed = h.1; within = let d = h.1 in d.cas; unnumbered = h.2; front = nothing (doc_bytes doc) }))).fits refl)
 entry_fits (entries.Deletion key cas) h =
     parts_fit 2 (key_bytes key ++ to_be_bytes w64 cas) (omega arith) (omega arith)
-    ((leads_on (key_layout (cas_layout end)) (key_bytes key ++ to_be_bytes w64 cas) (cas_layout end) (to_be_bytes w64 cas) end []
-    (key_leads (cas_layout end) (key_bytes key ++ to_be_bytes w64 cas) key (to_be_bytes w64 cas) (record { allowed = h.0; front = refl }))
-    (cas_leads end (to_be_bytes w64 cas) cas [] (record { allowed = h.1; front = nothing (to_be_bytes w64 cas) }))).fits refl)
+    ((leads_on (key_layout (cas_layout GREATEST_CAS end)) (key_bytes key ++ to_be_bytes w64 cas) (cas_layout GREATEST_CAS end) (to_be_bytes w64 cas) end []
+    (key_leads (cas_layout GREATEST_CAS end) (key_bytes key ++ to_be_bytes w64 cas) key (to_be_bytes w64 cas) (record { allowed = h.0; front = refl }))
+    (cas_leads GREATEST_CAS end (to_be_bytes w64 cas) cas [] (record { allowed = h.1; within = h.1; front = nothing (to_be_bytes w64 cas) }))).fits refl)
 entry_fits (entries.Prepare key what level) h =
     let rest = key_bytes key ++ what_bytes what in
     parts_fit 3 (level ∷ rest) (omega arith) (omega arith)
-    ((leads_on prepare_layout (level ∷ rest) (key_layout (what_layout end)) rest end []
-    (byte_leads 1 GREATEST_LEVEL (λ level. key_layout (what_layout end)) (level ∷ rest) level rest (record { front = refl; above = h.3; below = h.4 }))
-    (leads_on (key_layout (what_layout end)) rest (what_layout end) (what_bytes what) end []
-    (key_leads (what_layout end) rest key (what_bytes what) (record { allowed = h.0; front = refl }))
-    (what_leads end (what_bytes what) what [] (record { allowed = h.1; unnumbered = h.2; front = nothing (what_bytes what) })))).fits refl)
+    ((leads_on prepare_layout (level ∷ rest) (key_layout (what_layout GREATEST_CAS end)) rest end []
+    (byte_leads 1 GREATEST_LEVEL (λ level. key_layout (what_layout GREATEST_CAS end)) (level ∷ rest) level rest (record { front = refl; above = h.3; below = h.4 }))
+    (leads_on (key_layout (what_layout GREATEST_CAS end)) rest (what_layout GREATEST_CAS end) (what_bytes what) end []
+    (key_leads (what_layout GREATEST_CAS end) rest key (what_bytes what) (record { allowed = h.0; front = refl }))
+    (what_leads GREATEST_CAS end (what_bytes what) what [] (record { allowed = h.1; within = cas_allowed what h.1; unnumbered = h.2; front = nothing (what_bytes what) })))).fits refl)
 entry_fits (entries.Commit of) h = parts_fit 4 (to_be_bytes w64 of) (omega arith) (omega arith) (position_fits of h.0 h.1)
 entry_fits (entries.Abort of) h = parts_fit 5 (to_be_bytes w64 of) (omega arith) (omega arith) (position_fits of h.0 h.1)
 entry_fits (entries.Manifest text) h =
@@ -77,7 +83,7 @@ break_none bytes place e b s = broken_none bytes b.left b.breaks e s
 
 -- ---- one entry for one spelling
 
-same_key : (a b : DocKey) (r s : List ℕ) → IsAllowedKey a → IsAllowedKey b → key_bytes a ++ r ≡ key_bytes b ++ s → Same a b r s
+pub same_key : (a b : DocKey) (r s : List ℕ) → IsAllowedKey a → IsAllowedKey b → key_bytes a ++ r ≡ key_bytes b ++ s → Same a b r s
 same_key a b r s h k e =
     let first = same_byte (length (spelt_key a)) (length (spelt_key b)) (spelt_key a ++ r) (spelt_key b ++ s) e in
     let second = same_run (spelt_key a) (spelt_key b) r s first.rest first.one in
@@ -130,7 +136,7 @@ first_is a b e = ap (λ l. slice_index l 0) e
 never : ◌≡◌ {A = ℕ} 1 2 → ⊥
 never e = omega arith
 
-same_what : (a b : What) (r s : List ℕ) → IsAllowedWhat a → IsAllowedWhat b → IsUnnumbered a → IsUnnumbered b → what_bytes a ++ r ≡ what_bytes b ++ s → Same a b r s
+pub same_what : (a b : What) (r s : List ℕ) → IsAllowedWhat a → IsAllowedWhat b → IsUnnumbered a → IsUnnumbered b → what_bytes a ++ r ≡ what_bytes b ++ s → Same a b r s
 same_what (whats.Put a) (whats.Put b) r s h k m n e =
     let doc = same_doc a b r s h k m n (same_byte 1 1 (doc_bytes a ++ r) (doc_bytes b ++ s) e).rest in
     record { one = ap whats.Put doc.one; rest = doc.rest }

@@ -3,7 +3,8 @@ pub mod Collections
 pub mod Waiting
 pub mod Joins
 pub mod Totals
+pub mod Spelt
 pub mod Layouts
 pub mod Pieces
-pub mod Spelt
 pub mod Entries
+pub mod Prepared

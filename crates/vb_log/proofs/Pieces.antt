@@ -16,7 +16,7 @@ use Rattle.std.proofs.lemmas.Str.{IsUtf8-from_is_utf8}
 use Rattle.manifest_rules.specs.Catalog.{Catalog}
 use Rattle.manifest_rules.specs.Form.{catalog_in}
 use Rattle.manifest_rules.proofs.Outcomes.{read_is}
-use Rattle.vb_log.specs.declared.limits.TheConstants.{GREATEST_CAS, SECTION_LIMIT, SPELT_KEY_LIMIT}
+use Rattle.vb_log.specs.declared.limits.TheConstants.{SECTION_LIMIT, SPELT_KEY_LIMIT}
 use Rattle.vb_log.specs.declared.documents.Head.{Head}
 use Rattle.vb_log.specs.declared.fields.FieldFault.{FieldFault}
 use Rattle.vb_log.specs.Keys.{IsAllowedKey, spelt_key}
@@ -70,7 +70,7 @@ sized_refused most form next bytes piece rest fits at none =
 
 -- ---- keys
 
-key_fits : (key : DocKey) → IsAllowedKey key → length (spelt_key key) ≤ SPELT_KEY_LIMIT
+pub key_fits : (key : DocKey) → IsAllowedKey key → length (spelt_key key) ≤ SPELT_KEY_LIMIT
 key_fits key h = go (nat_eq key.collection 0) refl h.short
   where
     whole : length (spelt_key key) ≡ length (id_bytes key.collection) + length key.key
@@ -91,10 +91,10 @@ key_leads next bytes key rest at =
 
 -- ---- documents
 
-pub cas_leads : (next : Layout) (bytes : List ℕ) (cas : ℕ) (rest : List ℕ) → CasAt bytes cas rest → Leads (cas_layout next) bytes next rest
-cas_leads next bytes cas rest at =
+pub cas_leads : (most : ℕ) (next : Layout) (bytes : List ℕ) (cas : ℕ) (rest : List ℕ) → CasAt most bytes cas rest → Leads (cas_layout most next) bytes next rest
+cas_leads most next bytes cas rest at =
     let low = at.allowed in
-    number_leads eight 0 GREATEST_CAS (λ cas. next) bytes cas rest (record { front = at.front; above = omega arith; below = low; small = omega arith })
+    number_leads eight 0 most (λ cas. next) bytes cas rest (record { front = at.front; above = omega arith; below = at.within; small = omega arith })
 
 pub word_leads : (next : Layout) (bytes : List ℕ) (word : ℕ) (rest : List ℕ) → word < 2 ^ 32 → bytes ≡ to_be_bytes w32 word ++ rest → Leads (word_layout next) bytes next rest
 word_leads next bytes word rest low front =
@@ -104,15 +104,15 @@ pub json_leads : (next : Layout) (json : Bool) (rest : List ℕ) → Leads (byte
 json_leads next true rest = byte_leads 0 1 (λ json. next) (1 ∷ rest) 1 rest (record { front = refl; above = omega arith; below = omega arith })
 json_leads next false rest = byte_leads 0 1 (λ json. next) (0 ∷ rest) 0 rest (record { front = refl; above = omega arith; below = omega arith })
 
-pub head_leads : (next : Layout) (bytes : List ℕ) (head : Head) (rest : List ℕ) → HeadAt bytes head rest → Leads (head_layout next) bytes next rest
-head_leads next bytes head rest at =
+pub head_leads : (most : ℕ) (next : Layout) (bytes : List ℕ) (head : Head) (rest : List ℕ) → HeadAt most bytes head rest → Leads (head_layout most next) bytes next rest
+head_leads most next bytes head rest at =
     let json = from_bool head.json ∷ rest in
     let expiry = to_be_bytes w32 head.expiry ++ json in
     let flags = to_be_bytes w32 head.flags ++ expiry in
     let last : Layout = byte 0 1 (λ json. next) in
     let front : bytes ≡ to_be_bytes w64 head.cas ++ flags = at.front ∙ simp append_assoc in
-    leads_on (head_layout next) bytes (word_layout (word_layout last)) flags next rest
-    (cas_leads (word_layout (word_layout last)) bytes head.cas flags (record { allowed = at.cas; front = front }))
+    leads_on (head_layout most next) bytes (word_layout (word_layout last)) flags next rest
+    (cas_leads most (word_layout (word_layout last)) bytes head.cas flags (record { allowed = at.cas; within = at.within; front = front }))
     (leads_on (word_layout (word_layout last)) flags (word_layout last) expiry next rest
     (word_leads (word_layout last) flags head.flags expiry at.flags refl)
     (leads_on (word_layout last) expiry last json next rest
@@ -125,28 +125,28 @@ attributes_leads next bytes piece rest at = sized_leads SECTION_LIMIT as_section
 pub value_leads : (next : Layout) (bytes piece rest : List ℕ) → SizedAt VALUE_LIMIT bytes piece rest → Leads (value_layout next) bytes next rest
 value_leads next bytes piece rest at = sized_leads VALUE_LIMIT as_value next bytes piece rest (omega arith) tt at
 
-pub doc_leads : (next : Layout) (bytes : List ℕ) (doc : Doc) (rest : List ℕ) → DocAt bytes doc rest → Leads (doc_layout next) bytes next rest
-doc_leads next bytes doc rest at =
+pub doc_leads : (most : ℕ) (next : Layout) (bytes : List ℕ) (doc : Doc) (rest : List ℕ) → DocAt most bytes doc rest → Leads (doc_layout most next) bytes next rest
+doc_leads most next bytes doc rest at =
     let d = at.allowed in
     let head : Head = record { cas = doc.cas; flags = doc.flags; expiry = doc.expiry; json = doc.json } in
     let behind = sized doc.value ++ rest in
     let body = sized doc.xattrs ++ behind in
     let front : bytes ≡ head_bytes doc.cas doc.flags doc.expiry doc.json ++ body = at.front ∙ simp append_assoc in
-    leads_on (doc_layout next) bytes (attributes_layout (value_layout next)) body next rest
-    (head_leads (attributes_layout (value_layout next)) bytes head body (record { cas = d.cas; flags = d.flags; expiry = d.expiry; front = front }))
+    leads_on (doc_layout most next) bytes (attributes_layout (value_layout next)) body next rest
+    (head_leads most (attributes_layout (value_layout next)) bytes head body (record { cas = d.cas; within = at.within; flags = d.flags; expiry = d.expiry; front = front }))
     (leads_on (attributes_layout (value_layout next)) body (value_layout next) behind next rest
     (attributes_leads (value_layout next) body doc.xattrs behind (record { at = record { short = d.attributes_short; front = refl }; spells = d.attributes }))
     (value_leads next behind doc.value rest (record { short = d.value_short; front = refl })))
 
-pub what_leads : (next : Layout) (bytes : List ℕ) (what : What) (rest : List ℕ) → WhatAt bytes what rest → Leads (what_layout next) bytes next rest
-what_leads next bytes (whats.Put doc) rest at =
-    leads_on (what_layout next) bytes (doc_layout next) (doc_bytes doc ++ rest) next rest
-    (byte_leads 1 2 (λ tag. if nat_eq tag 1 then doc_layout next else cas_layout next) bytes 1 (doc_bytes doc ++ rest) (record { front = at.front; above = omega arith; below = omega arith }))
-    (doc_leads next (doc_bytes doc ++ rest) doc rest (record { allowed = at.allowed; unnumbered = at.unnumbered; front = refl }))
-what_leads next bytes (whats.Remove cas) rest at =
-    leads_on (what_layout next) bytes (cas_layout next) (to_be_bytes w64 cas ++ rest) next rest
-    (byte_leads 1 2 (λ tag. if nat_eq tag 1 then doc_layout next else cas_layout next) bytes 2 (to_be_bytes w64 cas ++ rest) (record { front = at.front; above = omega arith; below = omega arith }))
-    (cas_leads next (to_be_bytes w64 cas ++ rest) cas rest (record { allowed = at.allowed; front = refl }))
+pub what_leads : (most : ℕ) (next : Layout) (bytes : List ℕ) (what : What) (rest : List ℕ) → WhatAt most bytes what rest → Leads (what_layout most next) bytes next rest
+what_leads most next bytes (whats.Put doc) rest at =
+    leads_on (what_layout most next) bytes (doc_layout most next) (doc_bytes doc ++ rest) next rest
+    (byte_leads 1 2 (λ tag. if nat_eq tag 1 then doc_layout most next else cas_layout most next) bytes 1 (doc_bytes doc ++ rest) (record { front = at.front; above = omega arith; below = omega arith }))
+    (doc_leads most next (doc_bytes doc ++ rest) doc rest (record { allowed = at.allowed; within = at.within; unnumbered = at.unnumbered; front = refl }))
+what_leads most next bytes (whats.Remove cas) rest at =
+    leads_on (what_layout most next) bytes (cas_layout most next) (to_be_bytes w64 cas ++ rest) next rest
+    (byte_leads 1 2 (λ tag. if nat_eq tag 1 then doc_layout most next else cas_layout most next) bytes 2 (to_be_bytes w64 cas ++ rest) (record { front = at.front; above = omega arith; below = omega arith }))
+    (cas_leads most next (to_be_bytes w64 cas ++ rest) cas rest (record { allowed = at.allowed; within = at.within; front = refl }))
 
 -- ---- manifests
 

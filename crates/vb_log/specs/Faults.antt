@@ -1,11 +1,13 @@
--- Where bytes break the layout of an entry.
-use Rattle.std.specs.Prelude.{◌≡◌, ℕ, ◌+◌, List, length}
+-- Where bytes break the layout of an entry, of changes that wait.
+use Rattle.std.specs.Prelude.{◌≡◌, ℕ, ◌+◌, List, ◌++◌, length}
 use Rattle.vb_log.specs.declared.entry.Entry.{Entry}
+use Rattle.vb_log.specs.declared.entry.Pending.{Pending}
 use Rattle.vb_log.specs.declared.reading.ContentFault.{ContentFault}
 use Rattle.vb_log.specs.declared.reading.ContentFault.TheVariants as fault
 use Rattle.vb_log.specs.declared.fields.FieldFault.{FieldFault}
 use Rattle.vb_log.specs.declared.fields.FieldFault.TheVariants as field_fault
 use Rattle.vb_log.specs.Layout.{Layout, Breaks}
+use Rattle.vb_log.specs.Prepares.{widest, IsAllowedPending, pending_bytes, pending_layout}
 use Rattle.vb_log.specs.Spelling.{IsSpelled, entry_layout}
 
 -- the first field of an entry that breaks the layout begins behind so many bytes
@@ -18,6 +20,20 @@ pub record BreaksAt (bytes : List ℕ) (place : ℕ) : Type 0 where
 abbrev pub IsNoEntry : List ℕ → ContentFault → Type 0
 IsNoEntry bytes (fault.Bad place) = BreaksAt bytes place × ((e : Entry) → IsSpelled e bytes → ⊥)
 IsNoEntry bytes fault.NoMemory = Unit {0}
+
+-- the first field of changes that wait which breaks the layout begins behind so many bytes, whatever
+-- is to follow them
+pub record PendingBreaksAt (bytes : List ℕ) (place : ℕ) : Type 0 where
+  pub left : ℕ
+  pub parts : place + left ≡ length bytes
+  pub breaks : (next : Layout) → Breaks (pending_layout widest next) bytes left
+
+-- why no changes that wait were read: the bytes begin with none, and break the layout at the place
+abbrev pub IsNoPending : List ℕ → ContentFault → Type 0
+IsNoPending bytes (fault.Bad place) =
+    PendingBreaksAt bytes place
+    × ((ps : List Pending) (rest : List ℕ) → IsAllowedPending ps → bytes ≡ pending_bytes ps ++ rest → ⊥)
+IsNoPending bytes fault.NoMemory = Unit {0}
 
 -- why fields were not read: the bytes break the layout
 abbrev pub IsBroken : Layout → List ℕ → FieldFault → Type 0

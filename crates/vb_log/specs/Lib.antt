@@ -8,3 +8,4 @@ pub mod Layout
 pub mod Spelling
 pub mod Faults
 pub mod Reading
+pub mod Prepares

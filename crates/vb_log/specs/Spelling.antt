@@ -86,15 +86,16 @@ sized_layout most form next = number four 0 most (λ size. run size form next)
 abbrev pub key_layout : Layout → Layout
 key_layout next = byte 0 SPELT_KEY_LIMIT (λ size. run size as_key next)
 
-abbrev pub cas_layout : Layout → Layout
-cas_layout next = number eight 0 GREATEST_CAS (λ cas. next)
+-- a CAS that isn't above another
+abbrev pub cas_layout : ℕ → Layout → Layout
+cas_layout most next = number eight 0 most (λ cas. next)
 
 -- any number of four bytes
 abbrev pub word_layout : Layout → Layout
 word_layout next = number four 0 (2 ^ 32 - 1) (λ word. next)
 
-abbrev pub head_layout : Layout → Layout
-head_layout next = cas_layout (word_layout (word_layout (byte 0 1 (λ json. next))))
+abbrev pub head_layout : ℕ → Layout → Layout
+head_layout most next = cas_layout most (word_layout (word_layout (byte 0 1 (λ json. next))))
 
 abbrev pub attributes_layout : Layout → Layout
 attributes_layout next = sized_layout SECTION_LIMIT as_section next
@@ -102,17 +103,17 @@ attributes_layout next = sized_layout SECTION_LIMIT as_section next
 abbrev pub value_layout : Layout → Layout
 value_layout next = sized_layout VALUE_LIMIT as_value next
 
-abbrev pub doc_layout : Layout → Layout
-doc_layout next = head_layout (attributes_layout (value_layout next))
+abbrev pub doc_layout : ℕ → Layout → Layout
+doc_layout most next = head_layout most (attributes_layout (value_layout next))
 
-abbrev pub what_layout : Layout → Layout
-what_layout next = byte 1 2 (λ tag. if nat_eq tag 1 then doc_layout next else cas_layout next)
+abbrev pub what_layout : ℕ → Layout → Layout
+what_layout most next = byte 1 2 (λ tag. if nat_eq tag 1 then doc_layout most next else cas_layout most next)
 
 abbrev pub position_layout : Layout
 position_layout = number eight 1 GREATEST_POSITION (λ of. end)
 
 abbrev pub prepare_layout : Layout
-prepare_layout = byte 1 GREATEST_LEVEL (λ level. key_layout (what_layout end))
+prepare_layout = byte 1 GREATEST_LEVEL (λ level. key_layout (what_layout GREATEST_CAS end))
 
 abbrev pub manifest_layout : Layout
 manifest_layout = sized_layout MANIFEST_LIMIT as_manifest end
@@ -120,8 +121,8 @@ manifest_layout = sized_layout MANIFEST_LIMIT as_manifest end
 -- what follows the byte that says which entry it is
 abbrev pub parts_layout : ℕ → Layout
 parts_layout kind =
-    if nat_eq kind 1 then key_layout (doc_layout end)
-    else (if nat_eq kind 2 then key_layout (cas_layout end)
+    if nat_eq kind 1 then key_layout (doc_layout GREATEST_CAS end)
+    else (if nat_eq kind 2 then key_layout (cas_layout GREATEST_CAS end)
     else (if nat_eq kind 3 then prepare_layout
     else (if nat_eq kind 6 then manifest_layout
     else position_layout)))

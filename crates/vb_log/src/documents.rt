@@ -8,7 +8,7 @@ ghost use Rattle.vb_log.specs.Faults.{IsBroken};
 ghost use Rattle.vb_log.specs.Reading.{CasAt, HeadAt, AttributesAt, DocAt, WhatAt};
 
 use crate::fields::{FieldFault, byte_within, sized_at, u32_within, u64_within};
-use crate::limits::{GREATEST_CAS, SECTION_LIMIT};
+use crate::limits::SECTION_LIMIT;
 use doc_model::{Doc, VALUE_LIMIT, What};
 use kv_edge::{Bytes, NoMemory};
 use std::alloc::Global;
@@ -63,12 +63,13 @@ pub(crate) fn add_what(out: &mut Vec<u8>, what: &What) -> Result<(), NoMemory>
     }
 }
 
-/// The CAS at the front, and the bytes behind it.
-pub(crate) fn cas_at(bytes: &[u8]) -> Result<(u64, &[u8]), FieldFault>
-    ensures found { IfOk result (λ x. CasAt bytes.now x.0 x.1.now) }
-    ensures broken { (next : Layout) → IfErr result (IsBroken (cas_layout next) bytes.now) }
+/// The CAS at the front, which may not be above another, and the bytes behind it.
+pub(crate) fn cas_at(bytes: &[u8], most: u64) -> Result<(u64, &[u8]), FieldFault>
+    requires { most ≤ GREATEST_CAS }
+    ensures found { IfOk result (λ x. CasAt most bytes.now x.0 x.1.now) }
+    ensures broken { (next : Layout) → IfErr result (IsBroken (cas_layout most next) bytes.now) }
 {
-    let (cas, rest) = u64_within(bytes, 0, GREATEST_CAS)?;
+    let (cas, rest) = u64_within(bytes, 0, most)?;
     Ok((cas, rest))
 }
 
@@ -82,11 +83,12 @@ struct Head {
 }
 
 /// What a document at the front has beside its bytes, and the bytes behind that.
-fn head_at(bytes: &[u8]) -> Result<(Head, &[u8]), FieldFault>
-    ensures found { IfOk result (λ x. HeadAt bytes.now x.0 x.1.now) }
-    ensures broken { (next : Layout) → IfErr result (IsBroken (head_layout next) bytes.now) }
+fn head_at(bytes: &[u8], most: u64) -> Result<(Head, &[u8]), FieldFault>
+    requires { most ≤ GREATEST_CAS }
+    ensures found { IfOk result (λ x. HeadAt most bytes.now x.0 x.1.now) }
+    ensures broken { (next : Layout) → IfErr result (IsBroken (head_layout most next) bytes.now) }
 {
-    let (cas, behind_cas) = cas_at(bytes)?;
+    let (cas, behind_cas) = cas_at(bytes, most)?;
     let (flags, behind_flags) = u32_within(behind_cas, u32::MAX)?;
     let (expiry, behind_expiry) = u32_within(behind_flags, u32::MAX)?;
     let (json, rest) = byte_within(behind_expiry, 0, 1)?;
@@ -126,12 +128,14 @@ fn is_section(alloc: Global, bytes: &[u8]) -> Result<bool, NoMemory>
     }
 }
 
-/// Reads the document at the front, and the bytes behind it. It has the sequence number 0.
-pub(crate) fn doc_at(alloc: Global, bytes: &[u8]) -> Result<(Doc, &[u8]), FieldFault>
-    ensures found { IfOk result (λ x. DocAt bytes.now x.0 x.1.now) }
-    ensures broken { (next : Layout) → IfErr result (IsBroken (doc_layout next) bytes.now) }
+/// Reads the document at the front, whose CAS may not be above another, and the bytes behind it. It
+/// has the sequence number 0.
+pub(crate) fn doc_at(alloc: Global, bytes: &[u8], most: u64) -> Result<(Doc, &[u8]), FieldFault>
+    requires { most ≤ GREATEST_CAS }
+    ensures found { IfOk result (λ x. DocAt most bytes.now x.0 x.1.now) }
+    ensures broken { (next : Layout) → IfErr result (IsBroken (doc_layout most next) bytes.now) }
 {
-    let (head, behind_head) = head_at(bytes)?;
+    let (head, behind_head) = head_at(bytes, most)?;
     let (section, behind_section) = attributes_at(alloc, behind_head)?;
     let (piece, rest) = sized_at(behind_section, VALUE_LIMIT as u32)?;
     let xattrs = Bytes::from_slice(alloc, section)?;
@@ -150,17 +154,18 @@ pub(crate) fn doc_at(alloc: Global, bytes: &[u8]) -> Result<(Doc, &[u8]), FieldF
     ))
 }
 
-/// Reads the change at the front, and the bytes behind it.
-pub(crate) fn what_at(alloc: Global, bytes: &[u8]) -> Result<(What, &[u8]), FieldFault>
-    ensures found { IfOk result (λ x. WhatAt bytes.now x.0 x.1.now) }
-    ensures broken { (next : Layout) → IfErr result (IsBroken (what_layout next) bytes.now) }
+/// Reads the change at the front, whose CAS may not be above another, and the bytes behind it.
+pub(crate) fn what_at(alloc: Global, bytes: &[u8], most: u64) -> Result<(What, &[u8]), FieldFault>
+    requires { most ≤ GREATEST_CAS }
+    ensures found { IfOk result (λ x. WhatAt most bytes.now x.0 x.1.now) }
+    ensures broken { (next : Layout) → IfErr result (IsBroken (what_layout most next) bytes.now) }
 {
     let (tag, behind) = byte_within(bytes, PUT, REMOVE)?;
     if tag == PUT {
-        let (doc, rest) = doc_at(alloc, behind)?;
+        let (doc, rest) = doc_at(alloc, behind, most)?;
         Ok((What::Put(doc), rest))
     } else {
-        let (cas, rest) = cas_at(behind)?;
+        let (cas, rest) = cas_at(behind, most)?;
         Ok((What::Remove(cas), rest))
     }
 }

@@ -1,8 +1,9 @@
 //! Laws of logs and of the bytes of entries. Each function does nothing; its contract is the law.
 
-ghost use Rattle.std.specs.Prelude.{◌≡◌, ℕ, List, length};
+ghost use Rattle.std.specs.Prelude.{◌≡◌, ◌++◌, ℕ, List, length};
 ghost use Rattle.vb_log.specs.declared.entry.Entry.{Entry};
 ghost use Rattle.vb_log.specs.declared.entry.Entry.TheVariants as entries;
+ghost use Rattle.vb_log.specs.declared.entry.Pending.{Pending};
 ghost use Rattle.vb_log.specs.Content.{content_of};
 ghost use Rattle.vb_log.specs.Logs.{whole_logs, folds, IsFaithful};
 ghost use Rattle.vb_log.specs.Parts.{JoinsBack};
@@ -13,7 +14,8 @@ ghost use Rattle.vb_log.specs.Laws.{MutationCounts, DeletionCounts, PrepareCount
 ghost use Rattle.vb_log.specs.Layout.{Fits};
 ghost use Rattle.vb_log.specs.Spelling.{IsAllowed, IsSpelled, spelling, entry_layout};
 ghost use Rattle.vb_log.specs.Sizes.{entry_length};
-ghost use Rattle.vb_log.specs.Faults.{BreaksAt};
+ghost use Rattle.vb_log.specs.Prepares.{IsAllowedPending, pending_bytes};
+ghost use Rattle.vb_log.specs.Faults.{BreaksAt, PendingBreaksAt};
 
 /// What of a log's content lies behind a position, joined to what the log comes to up to there, is
 /// what the whole log comes to.
@@ -91,4 +93,16 @@ pub fn one_broken_place()
         → BreaksAt bytes first → BreaksAt bytes second → first ≡ second }
     ensures none { (bytes : List ℕ) (place : ℕ) (e : Entry)
         → BreaksAt bytes place → IsSpelled e bytes → ⊥ }
+{}
+
+/// Bytes begin with one list of changes that wait at most. Where they begin with none, they break the
+/// layout at one place.
+pub fn pending_has_one_spelling()
+    ensures one_list { (first second : List Pending) (rest more : List ℕ)
+        → IsAllowedPending first → IsAllowedPending second
+        → pending_bytes first ++ rest ≡ pending_bytes second ++ more → first ≡ second }
+    ensures place { (bytes : List ℕ) (first second : ℕ)
+        → PendingBreaksAt bytes first → PendingBreaksAt bytes second → first ≡ second }
+    ensures none { (bytes : List ℕ) (place : ℕ) (ps : List Pending) (rest : List ℕ)
+        → PendingBreaksAt bytes place → IsAllowedPending ps → bytes ≡ pending_bytes ps ++ rest → ⊥ }
 {}

@@ -92,6 +92,27 @@
 //! 00000001 78                               one byte: `x`
 //! ```
 //!
+//! # The bytes of changes that wait
+//!
+//! A count of four bytes, and so many changes that wait, one after another. What follows is left to
+//! who reads on: `read_pending` tells how many bytes they have.
+//!
+//! | Field | Bytes | Bounds |
+//! |---|---|---|
+//! | position of its Prepare | 8 | 1 to 2^42 - 1, and above the one before |
+//! | level | 1 | 1 to 3 |
+//! | key, change | as in an entry | as in an entry |
+//!
+//! Worked example, the key `b`, to be deleted with the CAS 9 by the Prepare at position 5, level 2:
+//!
+//! ```text
+//! 00000001                                  one change
+//! 0000000000000005                          prepared at 5
+//! 02                                        level 2
+//! 02 00 62                                  2 bytes: collection 0, `b`
+//! 02 0000000000000009                       a deletion, CAS 9
+//! ```
+//!
 //! # Where bytes break the layout
 //!
 //! `Bad` has the offset of the first field that isn't there, passes its bounds or hasn't its form;
@@ -106,8 +127,19 @@
 //! | `02 02 80 61` | `Bad(2)`: an id of two bytes, and no name |
 //! | `02 02 00 61 8000000000000000` | `Bad(4)`: a CAS of 2^63 |
 //! | `04 0000000000000001 00` | `Bad(9)`: a byte behind the position |
+//!
+//! A count that is followed by less breaks the layout where the first missing field should begin, and
+//! costs no more memory than what is there; a position that isn't above the one before breaks it
+//! itself.
+//!
+//! | Bytes of changes that wait | What is told |
+//! |---|---|
+//! | `000000` | `Bad(0)`: no count |
+//! | `ffffffff` | `Bad(4)`: no position |
+//! | `00000001 0000040000000000` | `Bad(4)`: a position of 2^42 |
 #![tactic(auto)]
 
+mod bounds;
 mod documents;
 mod entry;
 mod fields;
@@ -115,6 +147,7 @@ mod keys;
 mod kinds;
 mod laws;
 mod limits;
+mod pending;
 mod reading;
 mod writing;
 
@@ -122,13 +155,14 @@ pub use entry::{Entry, Pending};
 pub use laws::{
     abort_only_ends_its_prepare, changes_count_once, commit_shows_what_was_prepared,
     entry_has_one_spelling, folds_follow_their_entries, length_counts_entries,
-    manifest_takes_what_it_drops, one_broken_place, parts_join_back, prepare_shows_nothing,
-    spelling_has_its_length,
+    manifest_takes_what_it_drops, one_broken_place, parts_join_back, pending_has_one_spelling,
+    prepare_shows_nothing, spelling_has_its_length,
 };
 pub use limits::{
     CONTENT_LIMIT, GREATEST_CAS, GREATEST_LEVEL, GREATEST_POSITION, ITEM_OVERHEAD, LOG_LIMIT,
     SECTION_LIMIT, SPELT_KEY_LIMIT, SUM_LIMIT, log_numbers,
 };
+pub use pending::{pending_into, read_pending};
 pub use reading::{ContentFault, read_entry};
 pub use writing::entry_into;
 

@@ -1,6 +1,7 @@
 ghost use Rattle.std.specs.Prelude.{◌≡◌, ◌≤◌, ◌↔◌, ◌∷◌, [], IfOk, IfErr, OnOk, MatchResult, IsTrue};
 ghost use Rattle.vb_log.specs.declared.entry.Entry.{Entry};
 ghost use Rattle.vb_log.specs.declared.reading.ContentFault.TheVariants as faults;
+ghost use Rattle.vb_log.specs.declared.limits.TheConstants.{GREATEST_CAS};
 ghost use Rattle.vb_log.specs.Layout.{end, Spells, as_manifest};
 ghost use Rattle.vb_log.specs.Spelling.{IsSpelled, key_layout, cas_layout, doc_layout};
 ghost use Rattle.vb_log.specs.Spelling.{prepare_layout, position_layout, manifest_layout};
@@ -13,7 +14,7 @@ use crate::entry::Entry;
 use crate::fields::{FieldFault, byte_within, sized_at, u64_within};
 use crate::keys::key_at;
 use crate::kinds::{ABORT, COMMIT, DELETION, MANIFEST, MUTATION, PREPARE};
-use crate::limits::{GREATEST_LEVEL, GREATEST_POSITION};
+use crate::limits::{GREATEST_CAS, GREATEST_LEVEL, GREATEST_POSITION};
 use doc_model::{MANIFEST_LIMIT, Refused};
 use kv_edge::{Bytes, NoMemory};
 use manifest_rules::read_manifest;
@@ -73,10 +74,10 @@ fn entry_with(alloc: Global, kind: u8, parts: &[u8]) -> Result<Entry, FieldFault
 /// Reads the key and the document of a Mutation.
 fn mutation_of(alloc: Global, parts: &[u8]) -> Result<Entry, FieldFault>
     ensures found { IfOk result (λ e. IsSpelled e (1 ∷ parts.now)) }
-    ensures broken { IfErr result (IsBroken (key_layout (doc_layout end)) parts.now) }
+    ensures broken { IfErr result (IsBroken (key_layout (doc_layout GREATEST_CAS end)) parts.now) }
 {
     let (key, behind_key) = key_at(alloc, parts)?;
-    let (doc, rest) = doc_at(alloc, behind_key)?;
+    let (doc, rest) = doc_at(alloc, behind_key, GREATEST_CAS)?;
     ended(rest)?;
     Ok(Entry::Mutation { key, doc })
 }
@@ -84,10 +85,10 @@ fn mutation_of(alloc: Global, parts: &[u8]) -> Result<Entry, FieldFault>
 /// Reads the key and the CAS of a Deletion.
 fn deletion_of(alloc: Global, parts: &[u8]) -> Result<Entry, FieldFault>
     ensures found { IfOk result (λ e. IsSpelled e (2 ∷ parts.now)) }
-    ensures broken { IfErr result (IsBroken (key_layout (cas_layout end)) parts.now) }
+    ensures broken { IfErr result (IsBroken (key_layout (cas_layout GREATEST_CAS end)) parts.now) }
 {
     let (key, behind_key) = key_at(alloc, parts)?;
-    let (cas, rest) = cas_at(behind_key)?;
+    let (cas, rest) = cas_at(behind_key, GREATEST_CAS)?;
     ended(rest)?;
     Ok(Entry::Deletion { key, cas })
 }
@@ -99,7 +100,7 @@ fn prepare_of(alloc: Global, parts: &[u8]) -> Result<Entry, FieldFault>
 {
     let (level, behind_level) = byte_within(parts, 1, GREATEST_LEVEL)?;
     let (key, behind_key) = key_at(alloc, behind_level)?;
-    let (what, rest) = what_at(alloc, behind_key)?;
+    let (what, rest) = what_at(alloc, behind_key, GREATEST_CAS)?;
     ended(rest)?;
     Ok(Entry::Prepare { key, what, level })
 }
@@ -158,7 +159,7 @@ fn is_manifest(alloc: Global, bytes: &[u8]) -> Result<bool, NoMemory>
 }
 
 /// Whether nothing follows.
-fn ended(rest: &[u8]) -> Result<(), FieldFault>
+pub(crate) fn ended(rest: &[u8]) -> Result<(), FieldFault>
     ensures found { OnOk result (rest.now ≡ []) }
     ensures broken { IfErr result (IsBroken end rest.now) }
 {

@@ -1,10 +1,16 @@
 //! What no clause says: that the bytes of the definitions are those that are meant.
-use crate::{ContentFault, Entry, entry_into, read_entry};
-use doc_model::{Doc, DocKey, What};
+use crate::{ContentFault, entry_into, pending_into, read_entry, read_pending};
 use hex_rows::bytes_of;
-use kv_edge::{Bytes, NoMemory};
+use kv_edge::NoMemory;
 use std::alloc::Global;
-use std::test::Fail;
+
+// What a row is read as.
+
+const ENTRY: u16 = 0;
+
+const PREPARES: u16 = 1;
+
+// What is told of it.
 
 const WRITTEN: u16 = 0;
 
@@ -16,25 +22,42 @@ const OTHER: u16 = 3;
 
 const NOT_HEX: u16 = 4;
 
-/// Whether a row is an entry that is written by the same bytes, and of how many, or where it breaks
-/// the layout.
-fn told(alloc: Global, row: &str) -> (u16, usize) {
+/// Reads the entry whose bytes these are, and appends its bytes. Tells how many bytes were read.
+fn entry_again(alloc: Global, bytes: &[u8], out: &mut Vec<u8>) -> Result<usize, ContentFault> {
+    let entry = read_entry(alloc, bytes)?;
+    match entry_into(&entry, out) {
+        Ok(()) => Ok(bytes.len()),
+        Err(NoMemory) => Err(ContentFault::NoMemory),
+    }
+}
+
+/// Reads the changes that wait at the front, and appends their bytes. Tells how many bytes were read.
+fn prepares_again(alloc: Global, bytes: &[u8], out: &mut Vec<u8>) -> Result<usize, ContentFault> {
+    let (prepares, used) = read_pending(alloc, bytes)?;
+    match pending_into(prepares.as_slice(), out) {
+        Ok(()) => Ok(used),
+        Err(NoMemory) => Err(ContentFault::NoMemory),
+    }
+}
+
+/// Whether what a row begins with is written by the same bytes, and how many these are, or where the
+/// row breaks the layout.
+fn told(alloc: Global, kind: u16, row: &str) -> (u16, usize) {
     let bytes = match bytes_of(alloc, row) {
         Ok(bytes) => bytes,
         Err(_) => return (NOT_HEX, 0),
     };
-    match read_entry(alloc, bytes.as_slice()) {
-        Ok(entry) => {
-            let mut out = Vec::new(alloc);
-            match entry_into(&entry, &mut out) {
-                Ok(()) => {
-                    if out.as_slice() == bytes.as_slice() {
-                        (WRITTEN, bytes.len())
-                    } else {
-                        (OTHER, 0)
-                    }
-                }
-                Err(_) => (NO_MEMORY, 0),
+    let mut out = Vec::new(alloc);
+    let read = match kind {
+        ENTRY => entry_again(alloc, bytes.as_slice(), &mut out),
+        _ => prepares_again(alloc, bytes.as_slice(), &mut out),
+    };
+    match read {
+        Ok(used) => {
+            if bytes.as_slice().starts_with(out.as_slice()) && out.len() == used {
+                (WRITTEN, used)
+            } else {
+                (OTHER, 0)
             }
         }
         Err(ContentFault::Bad(place)) => (BAD, place),
@@ -43,10 +66,10 @@ fn told(alloc: Global, row: &str) -> (u16, usize) {
 }
 
 /// The number of the first row of which something else is told.
-fn first_wrong(alloc: Global, rows: &[(&str, (u16, usize))]) -> Option<usize> {
+fn first_wrong(alloc: Global, kind: u16, rows: &[(&str, (u16, usize))]) -> Option<usize> {
     let mut number = 0;
     for (row, wanted) in rows {
-        if told(alloc, row) != *wanted {
+        if told(alloc, kind, row) != *wanted {
             return Some(number);
         }
         number = number.saturating_add(1);
@@ -75,7 +98,7 @@ fn entries_are_read_and_written(rt: HostRuntime) {
             (WRITTEN, 28),
         ),
     ];
-    assert_eq!(rt; first_wrong(rt.alloc(), rows), None);
+    assert_eq!(rt; first_wrong(rt.alloc(), ENTRY, rows), None);
 }
 
 #[test]
@@ -145,5 +168,90 @@ fn what_is_no_entry_breaks_the_layout_at_its_place(rt: HostRuntime) {
             (BAD, 28),
         ),
     ];
-    assert_eq!(rt; first_wrong(rt.alloc(), rows), None);
+    assert_eq!(rt; first_wrong(rt.alloc(), ENTRY, rows), None);
+}
+
+#[test]
+fn prepares_are_read_and_written(rt: HostRuntime) {
+    let rows: &[(&str, (u16, usize))] = &[
+        ("00000000", (WRITTEN, 4)),
+        ("00000000 ff", (WRITTEN, 4)),
+        (
+            "00000001 0000000000000005 02 020062 02 0000000000000009",
+            (WRITTEN, 25),
+        ),
+        (
+            "00000001 000003ffffffffff 03 020062 02 7fffffffffffffff 00",
+            (WRITTEN, 25),
+        ),
+        (
+            "00000002 0000000000000001 01 020062 02 0000000000000009 \
+             0000000000000002 01 020061 01 0000000000000004 00000000 00000000 00 00000000 00000001 78",
+            (WRITTEN, 64),
+        ),
+    ];
+    assert_eq!(rt; first_wrong(rt.alloc(), PREPARES, rows), None);
+}
+
+#[test]
+fn what_are_no_prepares_breaks_the_layout_at_its_place(rt: HostRuntime) {
+    let rows: &[(&str, (u16, usize))] = &[
+        ("", (BAD, 0)),
+        ("000000", (BAD, 0)),
+        // a count of which nothing, or too little, follows
+        ("00000001", (BAD, 4)),
+        ("ffffffff", (BAD, 4)),
+        ("00000001 00000000000000", (BAD, 4)),
+        (
+            "ffffffff 0000000000000005 02 020062 02 0000000000000009",
+            (BAD, 25),
+        ),
+        // a position
+        (
+            "00000001 0000000000000000 02 020062 02 0000000000000009",
+            (BAD, 4),
+        ),
+        (
+            "00000001 0000040000000000 02 020062 02 0000000000000009",
+            (BAD, 4),
+        ),
+        (
+            "00000002 0000000000000005 02 020062 02 0000000000000009 \
+             0000000000000005 02 020061 02 0000000000000009",
+            (BAD, 25),
+        ),
+        (
+            "00000002 0000000000000005 02 020062 02 0000000000000009 \
+             0000000000000004 02 020061 02 0000000000000009",
+            (BAD, 25),
+        ),
+        // a level
+        (
+            "00000001 0000000000000005 00 020062 02 0000000000000009",
+            (BAD, 12),
+        ),
+        (
+            "00000001 0000000000000005 04 020062 02 0000000000000009",
+            (BAD, 12),
+        ),
+        // a key
+        (
+            "00000001 0000000000000005 02 fc0062 02 0000000000000009",
+            (BAD, 13),
+        ),
+        (
+            "00000001 0000000000000005 02 0100 02 0000000000000009",
+            (BAD, 14),
+        ),
+        // a change
+        (
+            "00000001 0000000000000005 02 020062 03 0000000000000009",
+            (BAD, 16),
+        ),
+        (
+            "00000001 0000000000000005 02 020062 02 8000000000000000",
+            (BAD, 17),
+        ),
+    ];
+    assert_eq!(rt; first_wrong(rt.alloc(), PREPARES, rows), None);
 }
