@@ -343,7 +343,8 @@ module _ {L : Type 0} (k : LogKind L) where
       (λ goes. Writes refl refl refl)
   cleaning_as_fares z luck (NoRoomToMove needed free) c =
       if_one (Both luck c (cleaning_as (fails z) (NoRoomToMove needed free) c))
-      (fails_disk luck.chance) _ _ (Stops refl refl refl refl) (Stays (keeps k c) (λ well. inr refl))
+      (fails_disk luck.chance) _ _ (Stops refl refl refl refl)
+      (Stays (keeps k c) (λ well. inr refl))
 
   fencing_fares : {Y : Type 0} (z : Y) (luck : Luck Y) (term : ℕ) (c : Copy L Y)
       → Both luck c (fencing k (fails z) term c) (fencing k luck term c)
