@@ -40,9 +40,19 @@ module _ {L : Type 0} (k : LogKind L) where
   dead c = record c { role = roles.Dead }
 
   unmoved : {Y : Type 0} (c : Copy L Y) → Unmoved c c
-  unmoved c = record { role = refl; log = refl; accepted = refl; promise = refl; disk = refl; torn = refl }
+  unmoved c = record {
+    role = refl;
+    log = refl;
+    accepted = refl;
+    promise = refl;
+    disk = refl;
+    torn =
+        refl;
+  }
 
-  body_step_dead : {Y : Type 0} (y : LayoutKind Y) (luck : Luck Y) (now : ℕ) (request : Request) (body : Body) (c : Copy L Y) → Unmoved (dead c) (body_step k y luck now request body (dead c)).0
+  body_step_dead : {Y : Type 0} (y : LayoutKind Y) (luck : Luck Y) (now : ℕ) (request : Request)
+      (body : Body) (c : Copy L Y)
+      → Unmoved (dead c) (body_step k y luck now request body (dead c)).0
   body_step_dead y luck now request (bodies.SetManifest text) c = unmoved (dead c)
   body_step_dead y luck now request bodies.GetManifest c = unmoved (dead c)
   body_step_dead y luck now request (bodies.CollectionId path) c = unmoved (dead c)
@@ -62,31 +72,50 @@ module _ {L : Type 0} (k : LogKind L) where
   body_step_dead y luck now request (bodies.MultiLook key specs) c = unmoved (dead c)
   body_step_dead y luck now request (bodies.MultiEdit key specs expiry flags) c = unmoved (dead c)
 
-  requested_dead : {Y : Type 0} (y : LayoutKind Y) (luck : Luck Y) (request : Request) (now : ℕ) (c : Copy L Y) → Unmoved (dead c) (requested k y luck request now (dead c)).0
+  requested_dead : {Y : Type 0} (y : LayoutKind Y) (luck : Luck Y) (request : Request) (now : ℕ)
+      (c : Copy L Y) → Unmoved (dead c) (requested k y luck request now (dead c)).0
   requested_dead {Y = Y} y luck request now c =
-      if_one (λ (r : Copy L Y × Outcome). Unmoved (dead c) r.0) (lacks_memory luck.chance) _ _ (unmoved (dead c))
+      if_one (λ (r : Copy L Y × Outcome). Unmoved (dead c) r.0) (lacks_memory luck.chance) _ _
+      (unmoved (dead c))
       (let same = body_step_dead y luck (moment_of now) request request.body (seeing now c) in
-      record { role = same.role; log = same.log; accepted = same.accepted; promise = same.promise; disk = same.disk; torn = same.torn })
+      record {
+        role = same.role;
+        log = same.log;
+        accepted = same.accepted;
+        promise =
+            same.promise;
+        disk = same.disk;
+        torn = same.torn;
+      })
 
-  polled_dead : {Y : Type 0} (ticket : Ticket) (c : Copy L Y) (fate : Option Fate) → Unmoved c (polled_as ticket c fate).0
+  polled_dead : {Y : Type 0} (ticket : Ticket) (c : Copy L Y) (fate : Option Fate)
+      → Unmoved c (polled_as ticket c fate).0
   polled_dead ticket c None = unmoved c
   polled_dead ticket c (Some Waiting) = unmoved c
-  polled_dead ticket c (Some (Stood position)) = record { role = refl; log = refl; accepted = refl; promise = refl; disk = refl; torn = refl }
-  polled_dead ticket c (Some Aborted) = record { role = refl; log = refl; accepted = refl; promise = refl; disk = refl; torn = refl }
-  polled_dead ticket c (Some Left) = record { role = refl; log = refl; accepted = refl; promise = refl; disk = refl; torn = refl }
+  polled_dead ticket c (Some (Stood position)) =
+      record { role = refl; log = refl; accepted = refl; promise = refl; disk = refl; torn = refl }
+  polled_dead ticket c (Some Aborted) =
+      record { role = refl; log = refl; accepted = refl; promise = refl; disk = refl; torn = refl }
+  polled_dead ticket c (Some Left) =
+      record { role = refl; log = refl; accepted = refl; promise = refl; disk = refl; torn = refl }
 
-  speaks_dead : {Y : Type 0} (c : Copy L Y) (sent : List (Sent L)) → Unmoved c (speaks_first c sent).0
+  speaks_dead : {Y : Type 0} (c : Copy L Y) (sent : List (Sent L))
+      → Unmoved c (speaks_first c sent).0
   speaks_dead c [] = unmoved c
-  speaks_dead c (sent ∷ more) = record { role = refl; log = refl; accepted = refl; promise = refl; disk = refl; torn = refl }
+  speaks_dead c (sent ∷ more) =
+      record { role = refl; log = refl; accepted = refl; promise = refl; disk = refl; torn = refl }
 
   tells_dead : {Y : Type 0} (c : Copy L Y) (seen : List Seen) → Unmoved c (tells_first c seen).0
   tells_dead c [] = unmoved c
-  tells_dead c (seen ∷ more) = record { role = refl; log = refl; accepted = refl; promise = refl; disk = refl; torn = refl }
+  tells_dead c (seen ∷ more) =
+      record { role = refl; log = refl; accepted = refl; promise = refl; disk = refl; torn = refl }
 
-  any_dead : {Y : Type 0} (y : LayoutKind Y) (luck : Luck Y) (e : Event L) (c : Copy L Y) → Unmoved (dead c) (step k y luck e (dead c)).0
+  any_dead : {Y : Type 0} (y : LayoutKind Y) (luck : Luck Y) (e : Event L) (c : Copy L Y)
+      → Unmoved (dead c) (step k y luck e (dead c)).0
   any_dead y luck (Requests request now) c = requested_dead y luck request now c
   any_dead y luck (Polls ticket) c = polled_dead ticket (dead c) (fate_of ticket c)
-  any_dead y luck (Forgets ticket) c = record { role = refl; log = refl; accepted = refl; promise = refl; disk = refl; torn = refl }
+  any_dead y luck (Forgets ticket) c =
+      record { role = refl; log = refl; accepted = refl; promise = refl; disk = refl; torn = refl }
   any_dead y luck (Hears sent) c = unmoved (dead c)
   any_dead y luck Speaks c = speaks_dead (dead c) c.unspoken
   any_dead y luck TellsChange c = tells_dead (dead c) c.untold
@@ -98,6 +127,9 @@ module _ {L : Type 0} (k : LogKind L) where
   any_dead y luck (SetsState state) c = unmoved (dead c)
 
   -- The law: a dead copy stays as it is.
-  pub step_dead : {Y : Type 0} (y : LayoutKind Y) (luck : Luck Y) (e : Event L) (c : Copy L Y) → is_dead c.role ≡ true → Unmoved c (step k y luck e c).0
+  pub step_dead : {Y : Type 0} (y : LayoutKind Y) (luck : Luck Y) (e : Event L) (c : Copy L Y)
+      → is_dead c.role ≡ true → Unmoved c (step k y luck e c).0
   step_dead y luck e c is =
-      subst (λ role. Unmoved (record c { role = role }) (step k y luck e (record c { role = role })).0) (dead_role c.role is) (any_dead y luck e c)
+      subst (λ role. Unmoved (record c { role = role })
+      (step k y luck e (record c { role = role })).0) (dead_role c.role is)
+      (any_dead y luck e c)

@@ -3,7 +3,7 @@
 ghost use Rattle.std.specs.Prelude.{◌≡◌, ◌⊎◌, true, false, None};
 ghost use Rattle.vb_log.specs.Logs.{LogKind};
 ghost use Rattle.replica_core.specs.Terms.{is_dead};
-ghost use Rattle.copy_model.specs.Copies.{Copy, LayoutKind, Luck};
+ghost use Rattle.copy_model.specs.Copies.{Copy, Fine, LayoutKind, Luck};
 ghost use Rattle.copy_model.specs.Events.{Event, step};
 ghost use Rattle.copy_model.specs.Laying.{writes};
 
@@ -32,6 +32,14 @@ pub fn unwritten_disks_stay<L, Y>()
         (is_dead c.role ≡ false → c.torn ≡ None) → writes k y e c ≡ false →
         let d = (step k y luck e c).0 in
         (d.disk ≡ c.disk) × (d.torn ≡ c.torn) }
+{}
+
+/// An event that writes leaves on disk what it wrote, where all goes well: `writes` names no event
+/// that may go well without a write.
+pub fn events_that_write_do<L, Y>()
+    ensures { (k : LogKind L) (y : LayoutKind Y) (luck : Luck Y) (e : Event L) (c : Copy L Y) →
+        (is_dead c.role ≡ false → c.torn ≡ None) → writes k y e c ≡ true → luck.chance ≡ Fine →
+        (step k y luck e c).0.disk.layout ≡ luck.layout }
 {}
 
 /// An event that may leave another pair on disk, by a write that stopped, leaves the copy dead.

@@ -54,8 +54,8 @@ mod log_laws;
 mod outcome;
 
 pub use disk_laws::{
-    dead_copies_stay, living_copies_have_one_pair, stopped_writes_leave_the_copy_dead,
-    unwritten_disks_stay, written_disks_have_their_layout,
+    dead_copies_stay, events_that_write_do, living_copies_have_one_pair,
+    stopped_writes_leave_the_copy_dead, unwritten_disks_stay, written_disks_have_their_layout,
 };
 pub use laws::{copies_may_the_same, steps_fold};
 pub use limits::{
