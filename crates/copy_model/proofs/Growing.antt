@@ -42,22 +42,22 @@ longer_takes (AckSent term mem disk) idle = tt
 longer_takes (RejoinSent term accepted length incarnation) idle = tt
 longer_takes (AdoptSent term incarnation log) idle = absurd (cc)
 
-longer_besides : (e : Event (List Entry)) → hears_all e ≡ false → Besides whole_logs longer longer_keeps e
-longer_besides (Requests request now) idle = tt
-longer_besides (Polls ticket) idle = tt
-longer_besides (Forgets ticket) idle = tt
-longer_besides (Hears sent) idle = longer_takes sent.message idle
-longer_besides Speaks idle = tt
-longer_besides TellsChange idle = tt
-longer_besides (Ticks now) idle = tt
-longer_besides Flushes idle = tt
-longer_besides (Cleans most) idle = tt
-longer_besides (Fences term) idle = tt
-longer_besides (Promotes term answers weak) idle = λ s. same_log s.log
-longer_besides (SetsState state) idle = tt
+longer_besides : {Y : Type 0} (c : Copy (List Entry) Y) (e : Event (List Entry)) → hears_all e ≡ false → Besides whole_logs longer longer_keeps c e
+longer_besides c (Requests request now) idle = tt
+longer_besides c (Polls ticket) idle = tt
+longer_besides c (Forgets ticket) idle = tt
+longer_besides c (Hears sent) idle = λ all. longer_takes sent.message idle
+longer_besides c Speaks idle = tt
+longer_besides c TellsChange idle = tt
+longer_besides c (Ticks now) idle = tt
+longer_besides c Flushes idle = tt
+longer_besides c (Cleans most) idle = tt
+longer_besides c (Fences term) idle = tt
+longer_besides c (Promotes term answers weak) idle = λ rightful s. same_log s.log
+longer_besides c (SetsState state) idle = tt
 
 pub step_grows : {Y : Type 0} (y : LayoutKind Y) (luck : Luck Y) (e : Event (List Entry)) (c : Copy (List Entry) Y) → hears_all e ≡ false → IsLonger c.log (step whole_logs y luck e c).0.log
-step_grows y luck e c idle = step_moves whole_logs longer longer_keeps y luck e c (longer_besides e idle)
+step_grows y luck e c idle = step_moves whole_logs longer longer_keeps y luck e c (longer_besides c e idle)
 
 -- ---- promises
 
@@ -85,22 +85,22 @@ module _ {L : Type 0} (k : LogKind L) where
   rising_takes (RejoinSent term accepted length incarnation) = tt
   rising_takes (AdoptSent term incarnation log) = λ s. le_refl s.promise
 
-  rising_besides : (e : Event L) → Besides k rising rising_keeps e
-  rising_besides (Requests request now) = tt
-  rising_besides (Polls ticket) = tt
-  rising_besides (Forgets ticket) = tt
-  rising_besides (Hears sent) = rising_takes sent.message
-  rising_besides Speaks = tt
-  rising_besides TellsChange = tt
-  rising_besides (Ticks now) = tt
-  rising_besides Flushes = tt
-  rising_besides (Cleans most) = tt
-  rising_besides (Fences term) = tt
-  rising_besides (Promotes term answers weak) = λ s. le_refl s.promise
-  rising_besides (SetsState state) = tt
+  rising_besides : {Y : Type 0} (c : Copy L Y) (e : Event L) → Besides k rising rising_keeps c e
+  rising_besides c (Requests request now) = tt
+  rising_besides c (Polls ticket) = tt
+  rising_besides c (Forgets ticket) = tt
+  rising_besides c (Hears sent) = λ all. rising_takes sent.message
+  rising_besides c Speaks = tt
+  rising_besides c TellsChange = tt
+  rising_besides c (Ticks now) = tt
+  rising_besides c Flushes = tt
+  rising_besides c (Cleans most) = tt
+  rising_besides c (Fences term) = tt
+  rising_besides c (Promotes term answers weak) = λ rightful s. le_refl s.promise
+  rising_besides c (SetsState state) = tt
 
   pub step_rises : {Y : Type 0} (y : LayoutKind Y) (luck : Luck Y) (e : Event L) (c : Copy L Y) → c.promise ≤ (step k y luck e c).0.promise
-  step_rises y luck e c = step_moves k rising rising_keeps y luck e c (rising_besides e)
+  step_rises y luck e c = step_moves k rising rising_keeps y luck e c (rising_besides c e)
 
 -- ---- roles
 
@@ -161,14 +161,14 @@ alive_begins luck e c r idle p =
     by_either (Begins e c) (is_dead c.role) _ _ (λ begun. absurd (cc)) (by_either (Begins e c) (lacks_memory luck.chance) _ _ (λ begun. absurd (cc)) p)
 
 module _ {Y : Type 0} (y : LayoutKind Y) (luck : Luck Y) (c : Copy (List Entry) Y) (idle : is_active c.role ≡ false) where
-  quietly : (e : Event (List Entry)) → Besides whole_logs (quiet whole_logs) (quiet_keeps whole_logs) e → is_active (step whole_logs y luck e c).0.role ≡ true → IsPromoted e c (step whole_logs y luck e c).0
+  quietly : (e : Event (List Entry)) → Besides whole_logs (quiet whole_logs) (quiet_keeps whole_logs) c e → is_active (step whole_logs y luck e c).0.role ≡ true → IsPromoted e c (step whole_logs y luck e c).0
   quietly e besides begun = let off = step_moves whole_logs (quiet whole_logs) (quiet_keeps whole_logs) y luck e c besides idle in absurd (cc)
 
   pub step_begins : (e : Event (List Entry)) → is_active (step whole_logs y luck e c).0.role ≡ true → IsPromoted e c (step whole_logs y luck e c).0
   step_begins (Requests request now) begun = quietly (Requests request now) tt begun
   step_begins (Polls ticket) begun = quietly (Polls ticket) tt begun
   step_begins (Forgets ticket) begun = quietly (Forgets ticket) tt begun
-  step_begins (Hears sent) begun = quietly (Hears sent) (quiet_takes whole_logs sent.message) begun
+  step_begins (Hears sent) begun = quietly (Hears sent) (λ all. quiet_takes whole_logs sent.message) begun
   step_begins Speaks begun = quietly Speaks tt begun
   step_begins TellsChange begun = quietly TellsChange tt begun
   step_begins (Ticks now) begun = quietly (Ticks now) tt begun

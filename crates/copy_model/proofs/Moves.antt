@@ -274,17 +274,21 @@ module _ {L : Type 0} (k : LogKind L) (R : Few L → Few L → Type 0) (h : Keep
   give_it_moves luck from (RejoinSent term accepted length incarnation) c = giving_moves luck from incarnation c
   give_it_moves luck from (AdoptSent term incarnation log) c = stays c
 
-  doing_moves : {Y : Type 0} (y : LayoutKind Y) (luck : Luck Y) (from : ℕ) (m : Message L) (what : Heard) (c : Copy L Y) → TakesAll m → R (few c) (few (doing k y luck from m what c))
+  doing_moves : {Y : Type 0} (y : LayoutKind Y) (luck : Luck Y) (from : ℕ) (m : Message L) (what : Heard) (c : Copy L Y) → (what ≡ hearing.TakeAll → TakesAll m) → R (few c) (few (doing k y luck from m what c))
   doing_moves y luck from m hearing.Ignore c takes = stays c
   doing_moves y luck from m hearing.Acknowledge c takes = stays c
   doing_moves y luck from m hearing.AskRejoin c takes = stays c
   doing_moves y luck from m hearing.Append c takes = append_it_moves y luck m c
-  doing_moves y luck from m hearing.TakeAll c takes = take_it_moves luck m c takes
+  doing_moves y luck from m hearing.TakeAll c takes = take_it_moves luck m c (takes refl)
   doing_moves y luck from m hearing.MarkWhole c takes = stays c
   doing_moves y luck from m hearing.GiveAdopt c takes = give_it_moves luck from m c
   doing_moves y luck from m hearing.Count c takes = count_it_moves from m c
 
-  hearing_it_moves : {Y : Type 0} (y : LayoutKind Y) (luck : Luck Y) (sent : Sent L) (c : Copy L Y) → TakesAll sent.message → R (few c) (few (hearing_it k y luck sent c))
+  -- what is to hold besides of a message that a copy hears
+  abbrev pub HearsAll : {Y : Type 0} → Copy L Y → Sent L → Type 0
+  HearsAll c sent = heard (core_of k c) (head_of k sent.from sent.message) ≡ hearing.TakeAll → TakesAll sent.message
+
+  hearing_it_moves : {Y : Type 0} (y : LayoutKind Y) (luck : Luck Y) (sent : Sent L) (c : Copy L Y) → HearsAll c sent → R (few c) (few (hearing_it k y luck sent c))
   hearing_it_moves y luck sent c takes =
       by_either (λ d. R (few c) (few d)) (is_for sent c) _ _
       (doing_moves y luck sent.from sent.message (heard (core_of k c) (head_of k sent.from sent.message)) c takes) (stays c)
@@ -330,11 +334,11 @@ module _ {L : Type 0} (k : LogKind L) (R : Few L → Few L → Type 0) (h : Keep
       if_alive_moves luck c _ (by_either (λ (r : Copy L _ × Result FenceAnswer VbFault). R (few c) (few r.0)) (is_old term (core_of k c)) _ _ (stays c) (fencing_moves luck term c))
 
   promoting_moves : {Y : Type 0} (y : LayoutKind Y) (luck : Luck Y) (term : ℕ) (fault : Option PromoteFault) (c : Copy L Y)
-      → ((s : Few L) → R s (record s { role = roles.Active; accepted = term })) → R (few c) (few (promoting k y luck term fault c).0)
+      → (fault ≡ None → (s : Few L) → R s (record s { role = roles.Active; accepted = term })) → R (few c) (few (promoting k y luck term fault c).0)
   promoting_moves y luck term (Some fault) c begins = stays c
   promoting_moves y luck term None c begins =
       put_told_moves (λ d. (begun_at k term d, Ok nothing)) c
-      (λ d. goes d (active_at k term d) (begun_at k term d) (begins (few d)) (begun_adds k R h.grows term d))
+      (λ d. goes d (active_at k term d) (begun_at k term d) (begins refl (few d)) (begun_adds k R h.grows term d))
       (write_log k y luck term c) (write_log_moves y luck term c)
 
   put_in_state_moves : {Y : Type 0} (state : ℕ) (c : Copy L Y) → R (few c) (few (put_in_state state c))
@@ -351,22 +355,23 @@ module _ {L : Type 0} (k : LogKind L) (R : Few L → Few L → Type 0) (h : Keep
   tells_moves c (seen ∷ more) = stays c
 
   -- what is to hold besides, where an event is a promotion or brings all of a log
-  abbrev pub Besides : Event L → Type 0
-  Besides (Requests request now) = Unit {0}
-  Besides (Polls ticket) = Unit {0}
-  Besides (Forgets ticket) = Unit {0}
-  Besides (Hears sent) = TakesAll sent.message
-  Besides Speaks = Unit {0}
-  Besides TellsChange = Unit {0}
-  Besides (Ticks now) = Unit {0}
-  Besides Flushes = Unit {0}
-  Besides (Cleans most) = Unit {0}
-  Besides (Fences term) = Unit {0}
-  Besides (Promotes term answers weak) = (s : Few L) → R s (record s { role = roles.Active; accepted = term })
-  Besides (SetsState state) = Unit {0}
+  abbrev pub Besides : {Y : Type 0} → Copy L Y → Event L → Type 0
+  Besides c (Requests request now) = Unit {0}
+  Besides c (Polls ticket) = Unit {0}
+  Besides c (Forgets ticket) = Unit {0}
+  Besides c (Hears sent) = HearsAll c sent
+  Besides c Speaks = Unit {0}
+  Besides c TellsChange = Unit {0}
+  Besides c (Ticks now) = Unit {0}
+  Besides c Flushes = Unit {0}
+  Besides c (Cleans most) = Unit {0}
+  Besides c (Fences term) = Unit {0}
+  Besides c (Promotes term answers weak) =
+      promote_fault (core_of k c) term answers weak ≡ None → (s : Few L) → R s (record s { role = roles.Active; accepted = term })
+  Besides c (SetsState state) = Unit {0}
 
   -- Each event keeps the relation.
-  pub step_moves : {Y : Type 0} (y : LayoutKind Y) (luck : Luck Y) (e : Event L) (c : Copy L Y) → Besides e → R (few c) (few (step k y luck e c).0)
+  pub step_moves : {Y : Type 0} (y : LayoutKind Y) (luck : Luck Y) (e : Event L) (c : Copy L Y) → Besides c e → R (few c) (few (step k y luck e c).0)
   step_moves y luck (Requests request now) c besides = requested_moves y luck request now c
   step_moves y luck (Polls ticket) c besides = polled_as_moves ticket c (fate_of ticket c)
   step_moves y luck (Forgets ticket) c besides = stays c

@@ -50,3 +50,10 @@ pub fn promises_rise<Y>()
         (c : Copy (List Entry) Y) →
         c.promise ≤ (step whole_logs y luck e c).0.promise }
 {}
+
+/// A copy never goes back to an earlier term's log: no event lowers the term that it has accepted.
+pub fn accepted_terms_rise<Y>()
+    ensures { (y : LayoutKind Y) (luck : Luck Y) (e : Event (List Entry))
+        (c : Copy (List Entry) Y) →
+        c.accepted ≤ (step whole_logs y luck e c).0.accepted }
+{}
