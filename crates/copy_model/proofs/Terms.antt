@@ -38,31 +38,39 @@ module _ (core : CopyCore) (head : MessageHead) where
 
   all_higher : TakesHigher (heard_all core head)
   all_higher =
-      by_test TakesHigher (nat_lt core.accepted head.term) _ _ (λ less all. below core.accepted head.term less)
-      (λ other. by_test TakesHigher (nat_lt head.term core.accepted) _ _ (λ less all. absurd (cc)) (λ same all. above core.accepted head.term same))
+      by_test TakesHigher (nat_lt core.accepted head.term) _ _
+      (λ less all. below core.accepted head.term less)
+      (λ other. by_test TakesHigher (nat_lt head.term core.accepted) _ _ (λ less all. absurd (cc))
+      (λ same all. above core.accepted head.term same))
 
   next_higher : TakesHigher (heard_next core head)
   next_higher =
       by_either TakesHigher (nat_le head.first core.length) _ _ (λ all. absurd (cc))
-      (by_either TakesHigher (nat_eq head.first (core.length + 1)) _ _ (λ all. absurd (cc)) (λ all. absurd (cc)))
+      (by_either TakesHigher (nat_eq head.first (core.length + 1)) _ _ (λ all. absurd (cc))
+      (λ all. absurd (cc)))
 
   kind_higher : TakesHigher (heard_kind core head)
   kind_higher =
       by_either TakesHigher (nat_eq head.kind ENTRY) _ _
       (by_either TakesHigher (nat_eq head.term core.accepted) _ _ next_higher (λ all. absurd (cc)))
       (by_either TakesHigher (nat_eq head.kind ACK) _ _
-      (by_either TakesHigher (nat_eq head.term core.accepted && nat_le head.first core.length && core.whole) _ _ (λ all. absurd (cc)) (λ all. absurd (cc)))
+      (by_either TakesHigher (nat_eq head.term core.accepted && nat_le head.first core.length &&
+      core.whole) _ _ (λ all. absurd (cc)) (λ all. absurd (cc)))
       (by_either TakesHigher (nat_eq head.kind ADOPT) _ _
-      (by_either TakesHigher (nat_eq head.first core.incarnation) _ _ all_higher (λ all. absurd (cc)))
+      (by_either TakesHigher (nat_eq head.first core.incarnation) _ _ all_higher
+      (λ all. absurd (cc)))
       (λ all. absurd (cc))))
 
   passive_higher : TakesHigher (heard_passive core head)
-  passive_higher = by_either TakesHigher (owns head.from head.term && nat_le core.promise head.term) _ _ kind_higher (λ all. absurd (cc))
+  passive_higher = by_either TakesHigher (owns head.from head.term && nat_le core.promise head.term)
+      _ _ kind_higher (λ all. absurd (cc))
 
   active_higher : TakesHigher (heard_active core head)
   active_higher =
       by_either TakesHigher (nat_eq head.term core.accepted) _ _
-      (by_either TakesHigher (nat_eq head.kind ACK) _ _ (λ all. absurd (cc)) (by_either TakesHigher (nat_eq head.kind REJOIN) _ _ (λ all. absurd (cc)) (λ all. absurd (cc))))
+      (by_either TakesHigher (nat_eq head.kind ACK) _ _ (λ all. absurd (cc))
+      (by_either TakesHigher (nat_eq head.kind REJOIN) _ _ (λ all. absurd (cc))
+      (λ all. absurd (cc))))
       (λ all. absurd (cc))
 
   as_higher : (role : Role) → TakesHigher (heard_as role core head)
@@ -72,12 +80,14 @@ module _ (core : CopyCore) (head : MessageHead) where
   as_higher roles.Dead = λ all. absurd (cc)
 
   heard_higher : TakesHigher (heard core head)
-  heard_higher = by_either TakesHigher (list_any (nat_eq head.from) (named_places core.chain)) _ _ (as_higher core.role) (λ all. absurd (cc))
+  heard_higher = by_either TakesHigher (list_any (nat_eq head.from) (named_places core.chain)) _ _
+      (as_higher core.role) (λ all. absurd (cc))
 
 -- ---- promotions
 
 -- where no check fails, the first holds, and none of the others fails
-none_first : (check : Bool × PromoteFault) (others : List (Bool × PromoteFault)) → first_fault (check ∷ others) ≡ None → (check.0 ≡ true) × (first_fault others ≡ None)
+none_first : (check : Bool × PromoteFault) (others : List (Bool × PromoteFault))
+    → first_fault (check ∷ others) ≡ None → (check.0 ≡ true) × (first_fault others ≡ None)
 none_first (true, fault) others e = (refl, e)
 none_first (false, fault) others e = absurd (cc)
 
@@ -87,20 +97,24 @@ SecondHolds [] = Unit {0}
 SecondHolds (check ∷ []) = Unit {0}
 SecondHolds (check ∷ second ∷ others) = second.0 ≡ true
 
-second_holds : (checks : List (Bool × PromoteFault)) → first_fault checks ≡ None → SecondHolds checks
+second_holds : (checks : List (Bool × PromoteFault)) → first_fault checks ≡ None
+    → SecondHolds checks
 second_holds [] e = tt
 second_holds (check ∷ []) e = tt
-second_holds (check ∷ second ∷ others) e = (none_first second others (none_first check (second ∷ others) e).1).0
+second_holds (check ∷ second ∷ others) e =
+    (none_first second others (none_first check (second ∷ others) e).1).0
 
 first_of_two : (a b : Bool) → (a && b) ≡ true → a ≡ true
 first_of_two true b h = refl
 first_of_two false b h = h
 
 -- a rightful promotion is one at a higher term
-promotes_higher : (core : CopyCore) (term : ℕ) (answers : List FenceAnswer) (weak : Bool) → promote_fault core term answers weak ≡ None → core.accepted ≤ term
+promotes_higher : (core : CopyCore) (term : ℕ) (answers : List FenceAnswer) (weak : Bool)
+    → promote_fault core term answers weak ≡ None → core.accepted ≤ term
 promotes_higher core term answers weak e =
     below core.accepted term
-    (first_of_two (nat_lt core.accepted term) (nat_le core.promise term) (second_holds (promotion_checks core term answers weak) e))
+    (first_of_two (nat_lt core.accepted term) (nat_le core.promise term)
+    (second_holds (promotion_checks core term answers weak) e))
 
 -- ---- the law
 
@@ -111,19 +125,27 @@ module _ {L : Type 0} (k : LogKind L) (least : ℕ) where
 
   lasting_keeps : Keeps k lasting
   lasting_keeps = record {
-    grows = record { stays = λ s most. most; goes = λ s t u p q most. q (p most); adds = λ s e most. most };
+    grows = record {
+      stays = λ s most. most;
+      goes = λ s t u p q most. q (p most);
+      adds = λ s e most.
+          most;
+    };
     leaves = λ s role off most. most;
     raises = λ s term higher most. most;
   }
 
 module _ {L : Type 0} (k : LogKind L) {Y : Type 0} (c : Copy L Y) where
-  lasting_takes : (from : ℕ) (m : Message L) → heard (core_of k c) (head_of k from m) ≡ hearing.TakeAll → TakesAll k (lasting k c.accepted) (lasting_keeps k c.accepted) m
+  lasting_takes : (from : ℕ) (m : Message L) → heard (core_of k c) (head_of k from m) ≡
+      hearing.TakeAll → TakesAll k (lasting k c.accepted) (lasting_keeps k c.accepted) m
   lasting_takes from (EntrySent term position e) all = tt
   lasting_takes from (AckSent term mem disk) all = tt
   lasting_takes from (RejoinSent term accepted length incarnation) all = tt
-  lasting_takes from (AdoptSent term incarnation log) all = λ s most. heard_higher (core_of k c) (head_of k from (AdoptSent term incarnation log)) all
+  lasting_takes from (AdoptSent term incarnation log) all =
+      λ s most. heard_higher (core_of k c) (head_of k from (AdoptSent term incarnation log)) all
 
-  lasting_besides : (e : Event L) → Besides k (lasting k c.accepted) (lasting_keeps k c.accepted) c e
+  lasting_besides : (e : Event L) → Besides k (lasting k c.accepted) (lasting_keeps k c.accepted) c
+      e
   lasting_besides (Requests request now) = tt
   lasting_besides (Polls ticket) = tt
   lasting_besides (Forgets ticket) = tt
@@ -134,8 +156,11 @@ module _ {L : Type 0} (k : LogKind L) {Y : Type 0} (c : Copy L Y) where
   lasting_besides Flushes = tt
   lasting_besides (Cleans most) = tt
   lasting_besides (Fences term) = tt
-  lasting_besides (Promotes term answers weak) = λ rightful s most. promotes_higher (core_of k c) term answers weak rightful
+  lasting_besides (Promotes term answers weak) =
+      λ rightful s most. promotes_higher (core_of k c) term answers weak rightful
   lasting_besides (SetsState state) = tt
 
-  pub step_accepts : (y : LayoutKind Y) (luck : Luck Y) (e : Event L) → c.accepted ≤ (step k y luck e c).0.accepted
-  step_accepts y luck e = step_moves k (lasting k c.accepted) (lasting_keeps k c.accepted) y luck e c (lasting_besides e) (le_refl c.accepted)
+  pub step_accepts : (y : LayoutKind Y) (luck : Luck Y) (e : Event L)
+      → c.accepted ≤ (step k y luck e c).0.accepted
+  step_accepts y luck e = step_moves k (lasting k c.accepted) (lasting_keeps k c.accepted) y luck e
+      c (lasting_besides e) (le_refl c.accepted)
