@@ -4,6 +4,7 @@ use Rattle.std.proofs.Common.{sym, ap, ◌∙◌, arith}
 use Rattle.std.proofs.lemmas.List.{append_assoc, append-nil}
 use Rattle.std.proofs.Math.Nat.{le_refl, le_trans}
 use Rattle.vb_log.specs.declared.entry.Entry.{Entry}
+use Rattle.vb_log.specs.declared.entry.Entry.TheVariants as entries
 use Rattle.vb_log.specs.Logs.{LogKind, whole_logs}
 use Rattle.replica_core.specs.declared.fences.FenceAnswer.{FenceAnswer}
 use Rattle.replica_core.specs.declared.fences.PromoteFault.{PromoteFault}
@@ -35,9 +36,13 @@ longer_keeps = record {
           ∙ append_assoc s.log p.more q.more;
     };
     adds = λ s e. record { more = e ∷ []; is = refl };
+    commits = λ s p. record { more = entries.Commit p ∷ []; is = refl };
+    aborts = λ s p. record { more = entries.Abort p ∷ []; is = refl };
   };
   leaves = λ s role idle. same_log s.log;
   raises = λ s term higher. same_log s.log;
+  prepares = λ s e t waits. record { more = e ∷ []; is = refl };
+  forgets = λ s ticket. same_log s.log;
 }
 
 longer_takes : (m : Message (List Entry)) → brings_all m ≡ false
@@ -83,9 +88,13 @@ module _ {L : Type 0} (k : LogKind L) where
       stays = λ s. le_refl s.promise;
       goes = λ s t u p q. le_trans p q;
       adds = λ s e. le_refl s.promise;
+      commits = λ s p. le_refl s.promise;
+      aborts = λ s p. le_refl s.promise;
     };
     leaves = λ s role idle. le_refl s.promise;
     raises = λ s term higher. at_most s.promise term higher;
+    prepares = λ s e t waits. le_refl s.promise;
+    forgets = λ s ticket. le_refl s.promise;
   }
 
   rising_takes : (m : Message L) → TakesAll k rising rising_keeps m
@@ -123,11 +132,14 @@ module _ {L : Type 0} (k : LogKind L) where
     grows = record {
       stays = λ s idle. idle;
       goes = λ s t u p q idle. q (p idle);
-      adds = λ s e idle.
-          idle;
+      adds = λ s e idle. idle;
+      commits = λ s p idle. idle;
+      aborts = λ s p idle. idle;
     };
     leaves = λ s role off idle. off;
     raises = λ s term higher idle. idle;
+    prepares = λ s e t waits idle. idle;
+    forgets = λ s ticket idle. idle;
   }
 
   quiet_takes : (m : Message L) → TakesAll k quiet quiet_keeps m
@@ -140,7 +152,13 @@ module _ {L : Type 0} (k : LogKind L) where
   same_term s t = t.accepted ≡ s.accepted
 
   same_term_adds : Adds k same_term
-  same_term_adds = record { stays = λ s. refl; goes = λ s t u p q. q ∙ p; adds = λ s e. refl }
+  same_term_adds = record {
+    stays = λ s. refl;
+    goes = λ s t u p q. q ∙ p;
+    adds = λ s e. refl;
+    commits = λ s p. refl;
+    aborts = λ s p. refl;
+  }
 
   begun_at_term : {Y : Type 0} (term : ℕ) (c : Copy L Y) → (begun_at k term c).accepted ≡ term
   begun_at_term term c = begun_adds k same_term same_term_adds term c

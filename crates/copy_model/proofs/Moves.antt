@@ -1,6 +1,6 @@
 -- Each event is made of moves of what a copy's laws speak of. A relation that each move keeps holds
 -- between a copy before an event and after it.
-use Rattle.std.specs.Prelude.{◌≡◌, ℕ, ◌+◌, nat_eq, nat_lt, Bool, true, false, cond, List, [], ◌∷◌, Option, Some, None, Result, Ok, Err, refl}
+use Rattle.std.specs.Prelude.{◌≡◌, ℕ, ◌+◌, nat_eq, nat_lt, Bool, true, false, not, filter, map as list_map, cond, List, [], ◌∷◌, ◌++◌, Option, Some, None, Result, Ok, Err, refl}
 use Rattle.std.specs.Option.{option_map_or}
 use Rattle.doc_model.specs.declared.document.What.{What}
 use Rattle.doc_model.specs.declared.status.Status.{Status}
@@ -29,10 +29,10 @@ use Rattle.replica_core.specs.Promotion.{is_old, promote_fault}
 use Rattle.copy_model.specs.declared.outcome.Ticket.{Ticket}
 use Rattle.copy_model.specs.declared.outcome.Outcome.{Outcome}
 use Rattle.copy_model.specs.declared.outcome.VbFault.{VbFault}
-use Rattle.copy_model.specs.Copies.{Fate, Waiting, Stood, Aborted, Left, Message, EntrySent, AckSent, RejoinSent, AdoptSent, Sent, Seen, Pair, Copy, Cleaning, Nothing, Moved, Freed, NoRoomToMove, LayoutKind, Luck, lacks_memory, fails_disk}
-use Rattle.copy_model.specs.Entries.{content, core_of, committed, is_ready_at, committing, settled, in_role, aborted, counting}
+use Rattle.copy_model.specs.Copies.{Fate, Waiting, Stood, Aborted, Left, Message, EntrySent, AckSent, RejoinSent, AdoptSent, OpenTicket, Sent, Seen, Pair, Copy, Cleaning, Nothing, Moved, Freed, NoRoomToMove, LayoutKind, Luck, lacks_memory, fails_disk}
+use Rattle.copy_model.specs.Entries.{content, log_length, core_of, decided, abandoned, left_by, committed, is_ready_at, committing, settled, in_role, aborted, counting}
 use Rattle.copy_model.specs.Disk.{Put, Done, NoRoom, Failed, dead_with, write_promise, needed, free, write_log, after_flush, put_then, flushing, must_flush, flushed_first, tells_flush}
-use Rattle.copy_model.specs.Requests.{moment_of, seeing, drawn, polled_as, polled, fate_of, is_too_much, after_put, changing, made, ticket_next, preparing, prepared, what_of, plain_entry, changing_document, effecting, concluded, step_on, request_checks, served, installed, set_by, if_active, body_step, requested}
+use Rattle.copy_model.specs.Requests.{is_ticket, moment_of, seeing, drawn, polled_as, polled, fate_of, is_too_much, after_put, changing, made, ticket_next, preparing, prepared, what_of, plain_entry, changing_document, effecting, concluded, step_on, request_checks, served, installed, set_by, if_active, body_step, requested}
 use Rattle.copy_model.specs.Hearing.{head_of, put_or, begins_with_flush, can_append, appended, appending, can_hold, taken, promising, adopting, giving, append_it, take_it, count_it, give_it, doing, is_for, hearing_it}
 use Rattle.copy_model.specs.Events.{if_alive, put_told, speaks_first, tells_first, due, aborting, ticking, flushed_to, flushes, cleaning_writes, cleaning_as, answering, fencing, fences, active_at, begun_at, nothing, promoting, put_in_state, Event, Requests, Polls, Forgets, Hears, Speaks, TellsChange, Ticks, Flushes, Cleans, Fences, Promotes, SetsState, step}
 
@@ -42,9 +42,16 @@ pub record Few (L : Type 0) : Type 0 where
   pub promise : ℕ
   pub accepted : ℕ
   pub log : L
+  pub tickets : List OpenTicket
 
 abbrev pub few : {L Y : Type 0} → Copy L Y → Few L
-few c = record { role = c.role; promise = c.promise; accepted = c.accepted; log = c.log }
+few c = record {
+  role = c.role;
+  promise = c.promise;
+  accepted = c.accepted;
+  log = c.log;
+  tickets = c.tickets;
+}
 
 -- through a test
 pub by_test : {A : Type 0} (P : A → Type 0) (b : Bool) (x y : A) → (b ≡ true → P x)
@@ -66,11 +73,26 @@ pub record Adds {L : Type 0} (k : LogKind L) (R : Few L → Few L → Type 0) : 
   pub stays : (s : Few L) → R s s
   pub goes : (s t u : Few L) → R s t → R t u → R s u
   pub adds : (s : Few L) (e : Entry) → R s (record s { log = k.add s.log e })
+  pub commits : (s : Few L) (p : ℕ) → R s (record s {
+    log = k.add s.log (entries.Commit p);
+    tickets = list_map (decided p (Stood ((k.view s.log).length + 1))) s.tickets;
+  })
+  pub aborts : (s : Few L) (p : ℕ) → R s (record s {
+    log = k.add s.log (entries.Abort p);
+    tickets = list_map (decided p Aborted) s.tickets;
+  })
 
 -- and where a copy leaves a role, or raises its promise
 pub record Keeps {L : Type 0} (k : LogKind L) (R : Few L → Few L → Type 0) : Type 0 where
   pub grows : Adds k R
-  pub leaves : (s : Few L) (role : Role) → is_active role ≡ false → R s (record s { role = role })
+  pub leaves : (s : Few L) (role : Role) → is_active role ≡ false → R s (record s {
+    role = role;
+    tickets = left_by s.role (list_map abandoned s.tickets) s.tickets;
+  })
+  pub prepares : (s : Few L) (e : Entry) (t : OpenTicket) → t.fate ≡ Waiting
+      → R s (record s { log = k.add s.log e; tickets = s.tickets ++ t ∷ [] })
+  pub forgets : (s : Few L) (ticket : Ticket)
+      → R s (record s { tickets = filter (λ t. not (is_ticket ticket t)) s.tickets })
   pub raises : (s : Few L) (term : ℕ) → nat_lt s.promise term ≡ true
       → R s (record s { promise = term })
 
@@ -81,7 +103,7 @@ module _ {L : Type 0} (k : LogKind L) (R : Few L → Few L → Type 0) (h : Adds
   committing_adds (p ∷ ps) c =
       by_either (λ d. R (few c) (few d)) (is_ready_at k c p) _ _
       (h.goes (few c) (few (committed k p.position c)) _
-      (h.adds (few c) (entries.Commit p.position))
+      (h.commits (few c) p.position)
       (committing_adds ps (committed k p.position c)))
       (h.stays (few c))
 
@@ -91,7 +113,7 @@ module _ {L : Type 0} (k : LogKind L) (R : Few L → Few L → Type 0) (h : Adds
   pub aborting_adds : {Y : Type 0} (ps : List ℕ) (c : Copy L Y) → R (few c) (few (aborting k ps c))
   aborting_adds [] c = h.stays (few c)
   aborting_adds (p ∷ ps) c = h.goes (few c) (few (aborted k p c)) _
-      (h.adds (few c) (entries.Abort p)) (aborting_adds ps (aborted k p c))
+      (h.aborts (few c) p) (aborting_adds ps (aborted k p c))
 
   pub begun_adds : {Y : Type 0} (term : ℕ) (c : Copy L Y)
       → R (few (active_at k term c)) (few (begun_at k term c))
@@ -173,17 +195,19 @@ module _ {L : Type 0} (k : LogKind L) (R : Few L → Few L → Type 0) (h : Keep
       → R (few c) (few (polled_as ticket c fate).0)
   polled_as_moves ticket c None = stays c
   polled_as_moves ticket c (Some Waiting) = stays c
-  polled_as_moves ticket c (Some (Stood position)) = stays c
-  polled_as_moves ticket c (Some Aborted) = stays c
-  polled_as_moves ticket c (Some Left) = stays c
+  polled_as_moves ticket c (Some (Stood position)) = h.forgets (few c) ticket
+  polled_as_moves ticket c (Some Aborted) = h.forgets (few c) ticket
+  polled_as_moves ticket c (Some Left) = h.forgets (few c) ticket
 
   prepared_moves : {Y : Type 0} (request : Request) (until : ℕ) (reply : Reply) (e : Entry)
       (c : Copy L Y) → R (few c) (few (prepared k request until reply e c).0)
   prepared_moves request until reply e c =
       let t = ticket_next k request reply c in
       let d = preparing k until e c in
+      let waits : OpenTicket =
+      record { prepare = log_length k c + 1; term = c.accepted; fate = Waiting } in
       goes c (settled k d) (polled t (settled k d)).0
-      (goes c d (settled k d) (h.grows.adds (few c) e) (settled_adds k R h.grows d))
+      (goes c d (settled k d) (h.prepares (few c) e waits refl) (settled_adds k R h.grows d))
       (polled_as_moves t (settled k d) (fate_of t (settled k d)))
 
   changing_document_moves : {Y : Type 0} (y : LayoutKind Y) (luck : Luck Y) (now : ℕ)
@@ -484,7 +508,7 @@ module _ {L : Type 0} (k : LogKind L) (R : Few L → Few L → Type 0) (h : Keep
       → Besides c e → R (few c) (few (step k y luck e c).0)
   step_moves y luck (Requests request now) c besides = requested_moves y luck request now c
   step_moves y luck (Polls ticket) c besides = polled_as_moves ticket c (fate_of ticket c)
-  step_moves y luck (Forgets ticket) c besides = stays c
+  step_moves y luck (Forgets ticket) c besides = h.forgets (few c) ticket
   step_moves y luck (Hears sent) c besides =
       if_alive_moves luck c _ (hearing_it_moves y luck sent c besides)
   step_moves y luck Speaks c besides = speaks_moves c c.unspoken

@@ -128,11 +128,14 @@ module _ {L : Type 0} (k : LogKind L) (least : ℕ) where
     grows = record {
       stays = λ s most. most;
       goes = λ s t u p q most. q (p most);
-      adds = λ s e most.
-          most;
+      adds = λ s e most. most;
+      commits = λ s p most. most;
+      aborts = λ s p most. most;
     };
     leaves = λ s role off most. most;
     raises = λ s term higher most. most;
+    prepares = λ s e t waits most. most;
+    forgets = λ s ticket most. most;
   }
 
 module _ {L : Type 0} (k : LogKind L) {Y : Type 0} (c : Copy L Y) where

@@ -56,6 +56,6 @@ pub use limits::{
 };
 pub use log_laws::{
     accepted_terms_rise, logs_only_grow, only_a_rightful_promotion_makes_active, promises_rise,
-    success_means_it_stands,
+    success_has_its_commit, success_means_it_stands,
 };
 pub use outcome::{Outcome, Polled, Ticket, VbFault};
