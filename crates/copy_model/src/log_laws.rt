@@ -27,9 +27,9 @@ pub fn success_means_it_stands<L, Y>()
         ↔ ((fate_of ticket c ≡ Some Waiting) × (next ≡ ticket)) }
 {}
 
-/// If a copy's log has the Commit of each open ticket that stands, at the ticket's position, then so
-/// it does after any event but a message that brings all of a log. A durable write that waited is
-/// then answered with another status than `SYNC_WRITE_AMBIGUOUS` only where its Commit is in the
+/// If a copy's log has the Commit of each open ticket that stands, at the ticket's position, then
+/// so it does after any event but a message that brings all of a log. A durable write that waited
+/// is then answered with another status than `SYNC_WRITE_AMBIGUOUS` only where its Commit is in the
 /// log, at the position that the reply's token has, if there is one.
 pub fn success_has_its_commit<Y>()
     ensures kept { (y : LayoutKind Y) (luck : Luck Y) (e : Event (List Entry))
