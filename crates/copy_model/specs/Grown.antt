@@ -1,12 +1,13 @@
 -- What the laws of a copy's steps speak of: replies that tell success, promotions, longer logs.
-use Rattle.std.specs.Prelude.{◌≡◌, ℕ, Bool, true, false, List, ◌++◌, Option, Some, None}
+use Rattle.std.specs.Prelude.{◌≡◌, ℕ, ◌+◌, Bool, true, false, List, [], ◌∷◌, ◌++◌, length, Option, Some, None}
 use Rattle.kv_request.specs.declared.reply.Reply.{Reply}
 use Rattle.vb_log.specs.declared.entry.Entry.{Entry}
+use Rattle.vb_log.specs.declared.entry.Entry.TheVariants as entries
 use Rattle.vb_log.specs.Logs.{whole_logs}
 use Rattle.replica_core.specs.declared.fences.FenceAnswer.{FenceAnswer}
 use Rattle.replica_core.specs.Promotion.{promote_fault}
 use Rattle.copy_model.specs.declared.outcome.Ticket.{Ticket}
-use Rattle.copy_model.specs.Copies.{Message, EntrySent, AckSent, RejoinSent, AdoptSent, Fate, Stood, Copy}
+use Rattle.copy_model.specs.Copies.{Message, EntrySent, AckSent, RejoinSent, AdoptSent, Fate, Waiting, Stood, Aborted, Left, OpenTicket, Copy}
 use Rattle.copy_model.specs.Entries.{core_of}
 use Rattle.copy_model.specs.Requests.{stood_at}
 use Rattle.copy_model.specs.Events.{Event, Requests, Polls, Forgets, Hears, Speaks, TellsChange, Ticks, Flushes, Cleans, Fences, Promotes, SetsState}
@@ -53,3 +54,28 @@ hears_all (Cleans most) = false
 hears_all (Fences term) = false
 hears_all (Promotes term answers weak) = false
 hears_all (SetsState state) = false
+
+-- at a position of a log the Commit of a prepare stands
+pub record HasCommit (log : List Entry) (prepare position : ℕ) : Type 0 where
+  pub before : List Entry
+  pub behind : List Entry
+  pub is : log ≡ before ++ entries.Commit prepare ∷ behind
+  pub at : length before + 1 ≡ position
+
+-- a prepare of this fate has its Commit where the fate says that it stands
+abbrev pub IsBorne : List Entry → ℕ → Fate → Type 0
+IsBorne log prepare Waiting = Unit {0}
+IsBorne log prepare (Stood position) = HasCommit log prepare position
+IsBorne log prepare Aborted = Unit {0}
+IsBorne log prepare Left = Unit {0}
+
+-- a log has the Commit of each ticket that stands, at the ticket's position
+abbrev pub AreBorne : List Entry → List OpenTicket → Type 0
+AreBorne log [] = Unit {0}
+AreBorne log (t ∷ ts) = IsBorne log t.prepare t.fate × AreBorne log ts
+
+-- A reply to a ticket tells the position of its Commit in a log.
+pub record TellsCommit (log : List Entry) (ticket : Ticket) (reply : Reply) : Type 0 where
+  pub position : ℕ
+  pub stands : HasCommit log ticket.prepare position
+  pub told : reply ≡ stood_at position ticket.reply

@@ -62,6 +62,7 @@ pub use limits::{
     CAS_LIMIT, LAST_MOMENT, REQUEST_LIMIT, SPENT, UNFLUSHED_BYTES, UNFLUSHED_ENTRIES, copy_numbers,
 };
 pub use log_laws::{
-    logs_only_grow, only_a_rightful_promotion_makes_active, promises_rise, success_means_it_stands,
+    accepted_terms_rise, logs_only_grow, only_a_rightful_promotion_makes_active, promises_rise,
+    success_has_its_commit, success_means_it_stands,
 };
 pub use outcome::{Outcome, Polled, Ticket, VbFault};

@@ -11,11 +11,12 @@ ghost use Rattle.copy_model.specs.declared.outcome.Polled.TheVariants as polls;
 ghost use Rattle.copy_model.specs.Copies.{Waiting, Copy, LayoutKind, Luck};
 ghost use Rattle.copy_model.specs.Requests.{fate_of, polled};
 ghost use Rattle.copy_model.specs.Events.{Event, step};
-ghost use Rattle.copy_model.specs.Grown.{TellsWhere, IsPromoted, IsLonger, hears_all};
+ghost use Rattle.copy_model.specs.Grown.{TellsWhere, TellsCommit, AreBorne};
+ghost use Rattle.copy_model.specs.Grown.{IsPromoted, IsLonger, hears_all};
 
-/// A durable write is answered with another status than `SYNC_WRITE_AMBIGUOUS` only where its
-/// Commit stands in the log, and the reply then tells the position of the Commit. A ticket is
-/// pending exactly while nothing is decided of its prepare.
+/// A durable write that waited is answered with another status than `SYNC_WRITE_AMBIGUOUS` only
+/// where its Commit was made, and the reply's token, if it has one, then has the Commit's position.
+/// A ticket is pending exactly while nothing is decided of its prepare.
 pub fn success_means_it_stands<L, Y>()
     ensures stands { (ticket : Ticket) (c : Copy L Y) (reply : Reply) →
         (polled ticket c).1 ≡ polls.Done reply →
@@ -24,6 +25,22 @@ pub fn success_means_it_stands<L, Y>()
     ensures waits { (ticket : Ticket) (c : Copy L Y) (next : Ticket) →
         ((polled ticket c).1 ≡ polls.Pending next)
         ↔ ((fate_of ticket c ≡ Some Waiting) × (next ≡ ticket)) }
+{}
+
+/// If a copy's log has the Commit of each open ticket that stands, at the ticket's position, then
+/// so it does after any event but a message that brings all of a log. A durable write that waited
+/// is then answered with another status than `SYNC_WRITE_AMBIGUOUS` only where its Commit is in the
+/// log, at the position that the reply's token has, if there is one.
+pub fn success_has_its_commit<Y>()
+    ensures kept { (y : LayoutKind Y) (luck : Luck Y) (e : Event (List Entry))
+        (c : Copy (List Entry) Y) →
+        hears_all e ≡ false → AreBorne c.log c.tickets →
+        AreBorne (step whole_logs y luck e c).0.log (step whole_logs y luck e c).0.tickets }
+    ensures told { (ticket : Ticket) (c : Copy (List Entry) Y) (reply : Reply) →
+        AreBorne c.log c.tickets →
+        (polled ticket c).1 ≡ polls.Done reply →
+        reply.status ≢ status.SYNC_WRITE_AMBIGUOUS →
+        TellsCommit c.log ticket reply }
 {}
 
 /// A copy that isn't active becomes active only by a promotion, and only by one whose answers allow
@@ -49,4 +66,11 @@ pub fn promises_rise<Y>()
     ensures { (y : LayoutKind Y) (luck : Luck Y) (e : Event (List Entry))
         (c : Copy (List Entry) Y) →
         c.promise ≤ (step whole_logs y luck e c).0.promise }
+{}
+
+/// A copy never goes back to an earlier term's log: no event lowers the term that it has accepted.
+pub fn accepted_terms_rise<Y>()
+    ensures { (y : LayoutKind Y) (luck : Luck Y) (e : Event (List Entry))
+        (c : Copy (List Entry) Y) →
+        c.accepted ≤ (step whole_logs y luck e c).0.accepted }
 {}
