@@ -108,3 +108,23 @@ module _ (chain : Chain) where
       let mem : ℕ → Bool = λ y. nat_le position (known y).mem in
       false_from_ne_true (is_ready chain own known level position) (λ e.
       true≢false (sym (ready_can (nat_eq level 3) disk mem (and_parts _ _ e).0) ∙ f))
+
+  -- ---- where a position is makes its prepare ready
+
+  pub had_ready : (own position : ℕ) (known : ℕ → Known)
+      → most_have chain known position ≡ true → is_ready chain own known 1 position ≡ true
+  had_ready own position known e = and_from (most_have chain known position) true e refl
+
+  pub had_and_kept_ready : (own position : ℕ) (known : ℕ → Known)
+      → most_have chain known position ≡ true → position ≤ (known own).disk
+      → is_ready chain own known 2 position ≡ true
+  had_and_kept_ready own position known e l =
+      and_from (most_have chain known position) (nat_le position (known own).disk) e
+      (le-leb position (known own).disk l)
+
+  pub kept_ready : (own position : ℕ) (known : ℕ → Known)
+      → most_keep chain known position ≡ true → position ≤ (known own).disk
+      → is_ready chain own known 3 position ≡ true
+  kept_ready own position known e l =
+      and_from (most_keep chain known position) (nat_le position (known own).disk) e
+      (le-leb position (known own).disk l)

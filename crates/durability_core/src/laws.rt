@@ -57,6 +57,21 @@ pub fn ready_places_have_it()
         → most_pass chain (λ place. nat_le position (known place).mem) ≡ true }
 {}
 
+/// A prepare is ready at level 1 where a majority of the places has it in memory, at level 2 where
+/// besides the active's own disk has it, and at level 3 where a majority has it on disk, and the
+/// active's own disk.
+pub fn what_places_have_is_ready()
+    ensures in_memory { (chain : Chain) (own position : ℕ) (known : ℕ → Known)
+        → most_pass chain (λ place. nat_le position (known place).mem) ≡ true
+        → is_ready chain own known 1 position ≡ true }
+    ensures own { (chain : Chain) (own position : ℕ) (known : ℕ → Known)
+        → most_pass chain (λ place. nat_le position (known place).mem) ≡ true
+        → position ≤ (known own).disk → is_ready chain own known 2 position ≡ true }
+    ensures on_disk { (chain : Chain) (own position : ℕ) (known : ℕ → Known)
+        → most_pass chain (λ place. nat_le position (known place).disk) ≡ true
+        → position ≤ (known own).disk → is_ready chain own known 3 position ≡ true }
+{}
+
 /// A chain that names fewer than a majority of its places has no prepare that is ready.
 pub fn nothing_is_ready_where_too_few_are_named()
     ensures { (chain : Chain) (own level position : ℕ) (known : ℕ → Known)

@@ -34,5 +34,5 @@ mod laws;
 pub use chain::Chain;
 pub use laws::{
     chain_numbers, majorities_meet, nothing_is_ready_where_too_few_are_named, readiness_lasts,
-    ready_places_have_it, stronger_is_ready,
+    ready_places_have_it, stronger_is_ready, what_places_have_is_ready,
 };

@@ -1,7 +1,7 @@
 -- Terms have one owner.
-use Rattle.std.specs.Prelude.{◌^◌, nat_eq, nat_le, nat_lt}
-use Rattle.std.proofs.Common.{◌≡◌, ℕ, ◌<◌, true, false, sym, ◌∙◌, arith}
-use Rattle.std.proofs.lemmas.Bool.{and_parts, and_left, and_right, eqb-true}
+use Rattle.std.specs.Prelude.{◌%◌, ◌^◌, nat_eq, nat_le, nat_lt}
+use Rattle.std.proofs.Common.{◌≡◌, ℕ, ◌<◌, ◌≤◌, true, false, sym, ◌∙◌, arith}
+use Rattle.std.proofs.lemmas.Bool.{and_parts, and_from, and_left, and_right, eqb-true, le-leb, lt-ltb}
 use Rattle.std.proofs.lemmas.Bool.Decides.{nat_tests}
 use Rattle.replica_core.specs.Terms.{is_term, owner, owns}
 
@@ -23,10 +23,19 @@ least_term place number l =
     and_left (is_term number) (nat_eq (owner number) place)
     (and_left (nat_le 4 number) (nat_lt number (2 ^ 48)) (low number l))
 
-itself : (n : ℕ) → nat_lt n n ≡ false
-itself n = grind (arith, nat_tests)
+high : (bound n : ℕ) → bound ≤ n → nat_lt n bound ≡ false
+high bound n l = grind (arith, nat_tests)
 
-pub most_term : (place : ℕ) → owns place (2 ^ 48) ≡ false
-most_term place =
-    and_left (is_term (2 ^ 48)) (nat_eq (owner (2 ^ 48)) place)
-    (and_right (nat_le 4 (2 ^ 48)) (nat_lt (2 ^ 48) (2 ^ 48)) (itself (2 ^ 48)))
+pub most_term : (place number : ℕ) → 2 ^ 48 ≤ number → owns place number ≡ false
+most_term place number l =
+    and_left (is_term number) (nat_eq (owner number) place)
+    (and_right (nat_le 4 number) (nat_lt number (2 ^ 48)) (high (2 ^ 48) number l))
+
+same : (n : ℕ) → nat_eq n n ≡ true
+same n = grind (arith, nat_tests)
+
+pub each_owned : (term : ℕ) → 4 ≤ term → term < 2 ^ 48 → owns (term % 4) term ≡ true
+each_owned term l m =
+    and_from (is_term term) (nat_eq (owner term) (term % 4))
+    (and_from (nat_le 4 term) (nat_lt term (2 ^ 48)) (le-leb 4 term l) (lt-ltb term (2 ^ 48) m))
+    (same (term % 4))

@@ -1,7 +1,7 @@
 //! Laws of terms, promotions and messages. Each function does nothing; its contract is the law.
 
-ghost use Rattle.std.specs.Prelude.{◌≡◌, ℕ, ◌<◌, ◌^◌, nat_eq, Bool, true, false, List, None};
-ghost use Rattle.std.specs.List.{list_any};
+ghost use Rattle.std.specs.Prelude.{◌≡◌, ℕ, ◌<◌, ◌≤◌, ◌%◌, ◌^◌, ◌||◌, nat_eq, Bool, true, false, List, None};
+ghost use Rattle.std.specs.List.{list_all, list_any};
 ghost use Rattle.durability_core.specs.Chains.{named_places};
 ghost use Rattle.durability_core.specs.Ready.{most_pass};
 ghost use Rattle.replica_core.specs.declared.copy.CopyCore.{CopyCore};
@@ -10,20 +10,24 @@ ghost use Rattle.replica_core.specs.declared.fences.FenceAnswer.{FenceAnswer};
 ghost use Rattle.replica_core.specs.declared.messages.MessageHead.{MessageHead};
 ghost use Rattle.replica_core.specs.declared.messages.Heard.TheVariants as hearing;
 ghost use Rattle.replica_core.specs.Terms.{owns};
-ghost use Rattle.replica_core.specs.Promotion.{is_behind, has_answered, are_many, promote_fault};
+ghost use Rattle.replica_core.specs.Promotion.{answer_at, same_answer, is_behind, has_answered};
+ghost use Rattle.replica_core.specs.Promotion.{are_many, none_foreign, promote_fault};
 ghost use Rattle.replica_core.specs.Hearing.{heard};
 
-/// A term has one owner, a place from 0 to 3. No place owns 0 to 3, or 2^48.
+/// A term has one owner, a place from 0 to 3; each number from 4 to below 2^48 has its own, and no
+/// other number has one.
 pub fn terms_have_one_owner()
     ensures one { (first second term : ℕ)
         → owns first term ≡ true → owns second term ≡ true → first ≡ second }
     ensures place { (place term : ℕ) → owns place term ≡ true → place < 4 }
     ensures least { (place number : ℕ) → number < 4 → owns place number ≡ false }
-    ensures most { (place : ℕ) → owns place (2 ^ 48) ≡ false }
+    ensures most { (place number : ℕ) → 2 ^ 48 ≤ number → owns place number ≡ false }
+    ensures each { (term : ℕ) → 4 ≤ term → term < 2 ^ 48 → owns (term % 4) term ≡ true }
 {}
 
 /// A promotion that isn't refused is one by the owner of the term, to a term above that of its log,
-/// with answers of a majority of the named places, none of them ahead of the copy.
+/// which it promised, with answers of a majority of the named places, its own as it is now among
+/// them, none ahead of the copy, and all of them whole unless it is a weak one.
 pub fn promotion_needs_a_majority()
     ensures owner { (core : CopyCore) (term : ℕ) (answers : List FenceAnswer) (weak : Bool)
         → promote_fault core term answers weak ≡ None → owns core.place term ≡ true }
@@ -34,6 +38,26 @@ pub fn promotion_needs_a_majority()
     ensures longest { (core : CopyCore) (term : ℕ) (answers : List FenceAnswer) (weak : Bool)
         → promote_fault core term answers weak ≡ None
         → list_any (is_behind core) answers ≡ false }
+    ensures promised { (core : CopyCore) (term : ℕ) (answers : List FenceAnswer) (weak : Bool)
+        → promote_fault core term answers weak ≡ None → core.promise ≡ term }
+    ensures own { (core : CopyCore) (term : ℕ) (answers : List FenceAnswer) (weak : Bool)
+        → promote_fault core term answers weak ≡ None
+        → list_any (same_answer (answer_at term core)) answers ≡ true }
+    ensures whole { (core : CopyCore) (term : ℕ) (answers : List FenceAnswer)
+        → promote_fault core term answers false ≡ None
+        → list_all (λ (a : FenceAnswer). a.whole) answers ≡ true }
+{}
+
+/// A promotion of a copy that promised the term is refused for one of these reasons alone: its place
+/// isn't the owner, its log is of as late a term, too few answered, an answer is foreign or ahead,
+/// or the promotion is strict and an answer isn't whole.
+pub fn rightful_promotions_are_made()
+    ensures { (core : CopyCore) (term : ℕ) (answers : List FenceAnswer) (weak : Bool)
+        → owns core.place term ≡ true → core.accepted < term → core.promise ≡ term
+        → are_many core term answers ≡ true → none_foreign core term answers ≡ true
+        → list_any (is_behind core) answers ≡ false
+        → (weak || list_all (λ (a : FenceAnswer). a.whole) answers) ≡ true
+        → promote_fault core term answers weak ≡ None }
 {}
 
 /// What a majority of a chain's places have is had by one that answered a promotion which isn't

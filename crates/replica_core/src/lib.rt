@@ -51,6 +51,6 @@ pub use copy::{CopyCore, Role};
 pub use fences::{FenceAnswer, PromoteFault};
 pub use laws::{
     dead_copies_hear_nothing, promotion_meets_each_majority, promotion_needs_a_majority,
-    terms_have_one_owner,
+    rightful_promotions_are_made, terms_have_one_owner,
 };
 pub use messages::{ACK, ADOPT, ENTRY, Heard, MessageHead, REJOIN};
