@@ -94,3 +94,30 @@ opening luck chain place number d = opened_by luck.chance chain place number luc
 -- a pair that a disk may hold, which has this one, and that one where a write was stopped
 abbrev pub MayHold : {L Y : Type 0} → Pair L Y → Option (Pair L Y) → Pair L Y → Type 0
 MayHold disk torn d = (disk ≡ d) ⊎ (torn ≡ Some d)
+
+-- ---- what a copy has that was just begun
+
+-- A copy that was opened on a pair which wasn't spent: a replica with what the pair has, at the
+-- pair's next opening. It isn't whole, has no ticket, and knows its disk.
+pub record IsOpenedOn {L Y : Type 0} (d : Pair L Y) (c : Copy L Y) : Type 0 where
+  pub unspent : is_spent d ≡ false
+  pub role : c.role ≡ roles.Replica
+  pub whole : c.whole ≡ false
+  pub promise : c.promise ≡ d.promise
+  pub accepted : c.accepted ≡ d.accepted
+  pub log : c.log ≡ d.log
+  pub incarnation : c.incarnation ≡ d.incarnation + 1
+  pub tickets : c.tickets ≡ []
+  pub torn : c.torn ≡ None
+
+-- A copy that was just begun on an empty disk: a replica without a promise, a term or an entry. It
+-- is whole, and at its first opening.
+pub record IsNew {L Y : Type 0} (k : LogKind L) (c : Copy L Y) : Type 0 where
+  pub role : c.role ≡ roles.Replica
+  pub whole : c.whole ≡ true
+  pub promise : c.promise ≡ 0
+  pub accepted : c.accepted ≡ 0
+  pub log : c.log ≡ k.begin
+  pub incarnation : c.incarnation ≡ 1
+  pub tickets : c.tickets ≡ []
+  pub torn : c.torn ≡ None

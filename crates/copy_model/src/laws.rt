@@ -1,10 +1,12 @@
-//! Laws of a copy's steps on whole logs and on what they come to.
+//! Laws of how copies begin, and of their steps on whole logs and on what they come to.
 
-ghost use Rattle.std.specs.Prelude.{◌≡◌, List};
+ghost use Rattle.std.specs.Prelude.{◌≡◌, ℕ, List};
 ghost use Rattle.vb_log.specs.declared.entry.Entry.{Entry};
 ghost use Rattle.vb_log.specs.Content.{Content};
-ghost use Rattle.vb_log.specs.Logs.{whole_logs, folds};
-ghost use Rattle.copy_model.specs.Copies.{Copy, LayoutKind, Luck};
+ghost use Rattle.vb_log.specs.Logs.{LogKind, whole_logs, folds};
+ghost use Rattle.durability_core.specs.declared.chain.Chain.{Chain};
+ghost use Rattle.copy_model.specs.Copies.{Pair, Copy, LayoutKind, Luck};
+ghost use Rattle.copy_model.specs.Openings.{new_copy, Opened, opening, IsNew, IsOpenedOn};
 ghost use Rattle.copy_model.specs.Events.{Event, Told, step};
 ghost use Rattle.copy_model.specs.Laying.{May};
 ghost use Rattle.copy_model.specs.Folded.{folded, folded_event, folded_told, folded_after};
@@ -31,4 +33,14 @@ pub fn copies_may_the_same<Y>()
         May folds y (folded_event whole_logs e) (folded whole_logs c) d told →
         (r : Copy (List Entry) Y × Told (List Entry)) × May whole_logs y e c r.0 r.1
         × (folded_after whole_logs r ≡ (d, told)) }
+{}
+
+/// A copy begins as a replica: on an empty disk whole and without anything (`new`), and on a pair
+/// with what the pair has, not whole, and only where the pair isn't spent (`opened`).
+pub fn copies_begin_as_replicas<L, Y>()
+    ensures new { (k : LogKind L) (chain : Chain) (place number : ℕ) (layout : Y) →
+        IsNew k (new_copy k chain place number layout) }
+    ensures opened { (luck : Luck Y) (chain : Chain) (place number : ℕ) (d : Pair L Y)
+        (c : Copy L Y) →
+        opening luck chain place number d ≡ Opened c → IsOpenedOn d c }
 {}

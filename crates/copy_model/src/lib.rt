@@ -57,7 +57,7 @@ pub use disk_laws::{
     dead_copies_stay, events_that_write_do, living_copies_have_one_pair,
     stopped_writes_leave_the_copy_dead, unwritten_disks_stay, written_disks_have_their_layout,
 };
-pub use laws::{copies_may_the_same, steps_fold};
+pub use laws::{copies_begin_as_replicas, copies_may_the_same, steps_fold};
 pub use limits::{
     CAS_LIMIT, LAST_MOMENT, REQUEST_LIMIT, SPENT, UNFLUSHED_BYTES, UNFLUSHED_ENTRIES, copy_numbers,
 };
