@@ -79,3 +79,10 @@ pub record TellsCommit (log : List Entry) (ticket : Ticket) (reply : Reply) : Ty
   pub position : ℕ
   pub stands : HasCommit log ticket.prepare position
   pub told : reply ≡ stood_at position ticket.reply
+
+-- A copy's log and its promise are on disk at an accepted term, all of what it was before an event.
+pub record IsStored {L Y : Type 0} (term : ℕ) (before after : Copy L Y) : Type 0 where
+  pub log : after.disk.log ≡ before.log
+  pub accepted : after.disk.accepted ≡ term
+  pub promise : after.disk.promise ≡ before.promise
+  pub incarnation : after.disk.incarnation ≡ before.incarnation

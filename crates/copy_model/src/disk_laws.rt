@@ -1,10 +1,12 @@
 //! Laws of what a copy's steps leave on its disk, in any representation of logs and any layout.
 
-ghost use Rattle.std.specs.Prelude.{◌≡◌, ◌⊎◌, true, false, None};
+ghost use Rattle.std.specs.Prelude.{◌≡◌, ◌⊎◌, ℕ, Bool, true, false, List, None, Ok};
 ghost use Rattle.vb_log.specs.Logs.{LogKind};
+ghost use Rattle.replica_core.specs.declared.fences.FenceAnswer.{FenceAnswer};
 ghost use Rattle.replica_core.specs.Terms.{is_dead};
 ghost use Rattle.copy_model.specs.Copies.{Copy, Fine, LayoutKind, Luck};
-ghost use Rattle.copy_model.specs.Events.{Event, step};
+ghost use Rattle.copy_model.specs.Events.{Event, step, nothing, flushes, promotes};
+ghost use Rattle.copy_model.specs.Grown.{IsStored};
 ghost use Rattle.copy_model.specs.Laying.{writes};
 
 /// A dead copy stays as it is, whatever comes: dead, with its log and the term of it, its promise,
@@ -56,4 +58,16 @@ pub fn living_copies_have_one_pair<L, Y>()
         (is_dead c.role ≡ false → c.torn ≡ None) →
         let d = (step k y luck e c).0 in
         is_dead d.role ≡ false → d.torn ≡ None }
+{}
+
+/// A flush that is told to be done put all of the log on disk at its accepted term, and told how
+/// many entries it has; a promotion that is told to be done put all of the log on disk at its term.
+pub fn what_is_told_is_on_disk<L, Y>()
+    ensures flushed { (k : LogKind L) (y : LayoutKind Y) (luck : Luck Y) (c : Copy L Y) (n : ℕ) →
+        (flushes k y luck c).1 ≡ Ok n →
+        IsStored c.accepted c (flushes k y luck c).0 × (n ≡ (k.view c.log).length) }
+    ensures promoted { (k : LogKind L) (y : LayoutKind Y) (luck : Luck Y) (c : Copy L Y)
+        (term : ℕ) (answers : List FenceAnswer) (weak : Bool) →
+        (promotes k y luck term answers weak c).1 ≡ Ok nothing →
+        IsStored term c (promotes k y luck term answers weak c).0 }
 {}

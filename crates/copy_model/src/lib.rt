@@ -55,7 +55,8 @@ mod outcome;
 
 pub use disk_laws::{
     dead_copies_stay, events_that_write_do, living_copies_have_one_pair,
-    stopped_writes_leave_the_copy_dead, unwritten_disks_stay, written_disks_have_their_layout,
+    stopped_writes_leave_the_copy_dead, unwritten_disks_stay, what_is_told_is_on_disk,
+    written_disks_have_their_layout,
 };
 pub use laws::{copies_begin_as_replicas, copies_may_the_same, steps_fold};
 pub use limits::{
