@@ -17,7 +17,7 @@ same_kept m p r h = map.same_map keys_total exact_keys _ _ (λ q. get_kept m p q
 
 -- ---- entries that pass a test
 
-lookup_kept : {X : Type 0} (p : DocKey → Bool) (es : List (DocKey × X)) (q : DocKey) → value_at (filter (λ e. p e.0) es) q ≡ cond (p q) (value_at es q) None
+pub lookup_kept : {X : Type 0} (p : DocKey → Bool) (es : List (DocKey × X)) (q : DocKey) → value_at (filter (λ e. p e.0) es) q ≡ cond (p q) (value_at es q) None
 lookup_kept p [] q = nothing (p q)
   where
     nothing : {X : Type 0} (b : Bool) → (let o : Option X = None in o) ≡ cond b None None

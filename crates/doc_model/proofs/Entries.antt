@@ -33,7 +33,7 @@ keys_total = then_total (on_total (λ k. k.collection) nat_cmp_total) (on_total 
 abbrev pub value_at : {X : Type 0} → List (DocKey × X) → DocKey → Option X
 value_at es q = lookup (is_at (key_cmp q)) es
 
-find_value : {X : Type 0} (es : List (DocKey × X)) (q : DocKey) → find key_cmp q es ≡ value_at es q
+pub find_value : {X : Type 0} (es : List (DocKey × X)) (q : DocKey) → find key_cmp q es ≡ value_at es q
 find_value [] q = refl
 find_value (e ∷ es) q = ap (cond (is_at (key_cmp q) e.0) (Some e.1)) (find_value es q)
 

@@ -1,18 +1,18 @@
 -- Slots of a collection that are freed, and what is left of the trees.
-use Rattle.std.specs.Prelude.{◌≡◌, ℕ, ◌<◌, ◌≤◌, Bool, true, false, cond, not, ◌&&◌, ◌||◌, is_some, nat_eq, filter, List, [], ◌∷◌, ◌++◌, length, refl}
+use Rattle.std.specs.Prelude.{◌≡◌, ℕ, ◌<◌, ◌≤◌, Bool, true, false, cond, not, ◌&&◌, ◌||◌, nat_eq, filter, List, [], ◌∷◌, ◌++◌, refl}
 use Rattle.std.specs.declared.cmp.Ordering.{Ordering}
 use Rattle.std.specs.declared.cmp.Ordering.TheVariants.{Less, Equal, Greater}
 use Rattle.std.specs.declared.ops.Bound.TheVariants.{Included, Unbounded}
 use Rattle.std.specs.List.{list_all, list_any, All, AllByRecursion}
 use Rattle.std.specs.List.Sorted.{IsStrictlySortedBy}
-use Rattle.std.specs.Map.{keys_of, values_of, lookup, remove_entry}
+use Rattle.std.specs.Map.{keys_of, values_of, remove_entry}
 use Rattle.std.specs.Ordering.{nat_cmp, ordering_then, is_gt, is_le}
 use Rattle.std.specs.Cmp.{first_so}
 use Rattle.std.specs.BTreeMap.{is_at}
 use Rattle.std.specs.BTreeMap.Range.{range_contains, entries_between}
 use Rattle.std.specs.FinMap as map
 use Rattle.std.proofs.Common.{sym, ◌∙◌, ap, ap₂, subst, arith, inl, inr, ◌⊎◌, eq-eqb}
-use Rattle.std.proofs.lemmas.Bool.{and_from, or_right, ne_eqb, eqb-true, cases_lt}
+use Rattle.std.proofs.lemmas.Bool.{and_from, or_right, ne_eqb, cases_lt}
 use Rattle.std.proofs.lemmas.Cmp.{nat_cmp_total, tied_itself}
 use Rattle.std.proofs.lemmas.List.Elements.{All-head, filter-append, filter_passes}
 use Rattle.std.proofs.lemmas.List.Kept.{IsStrictlySortedBy-filter}
@@ -20,7 +20,7 @@ use Rattle.std.proofs.lemmas.Map.Keys.{sorted_head, le_from_not_gt}
 use Rattle.std.proofs.lemmas.Map.Made.{is_some-lookup}
 use Rattle.doc_model.specs.declared.key.DocKey.{DocKey}
 use Rattle.doc_model.specs.declared.slot.Slot.{Slot}
-use Rattle.doc_model.specs.Keys.{key_cmp, is_among_ids, is_in}
+use Rattle.doc_model.specs.Keys.{key_cmp, is_among_ids}
 use Rattle.doc_model.specs.Slots.{slot_cmp, slot_of, ArePlaced, HasNone, HasFirst}
 use Rattle.doc_model.proofs.Drops.{entries_kept}
 use Rattle.doc_model.proofs.Slots.{InPlace, joined, same_slot}
@@ -39,7 +39,7 @@ filter_removed {K} {X} test p h (e ∷ es) =
       | false ↦ λ _. keep_or (p e.0) e _ _ (filter_removed test p h es)
     ] refl
 
-filter_all : {X : Type 0} (p : X → Bool) (xs : List X) → list_all p xs ≡ true → filter p xs ≡ xs
+pub filter_all : {X : Type 0} (p : X → Bool) (xs : List X) → list_all p xs ≡ true → filter p xs ≡ xs
 filter_all p [] h = refl
 filter_all {X} p (x ∷ xs) h =
     let first = first_so (p x) (list_all p xs) h in
@@ -48,7 +48,7 @@ filter_all {X} p (x ∷ xs) h =
 -- ---- the first slot of a collection
 
 -- whether a slot stands at a collection's first or behind
-abbrev slot_starts : ℕ → Slot → Bool
+abbrev pub slot_starts : ℕ → Slot → Bool
 slot_starts collection = range_contains slot_cmp (Included (record { collection = collection; hash = 0 })) Unbounded
 
 abbrev pub slots_from : {X : Type 0} → ℕ → List (Slot × X) → List (Slot × X)
@@ -71,17 +71,17 @@ none_below n = by (cases_lt 0 n)
     by (inl h) = grind arith
     by (inr h) = grind arith
 
-starts_behind : (collection : ℕ) (s : Slot) → slot_starts collection s ≡ true → collection ≤ s.collection
+pub starts_behind : (collection : ℕ) (s : Slot) → slot_starts collection s ≡ true → collection ≤ s.collection
 starts_behind collection s e = le_from_not_gt collection s.collection (is_not_greater (nat_cmp collection s.collection) (nat_cmp 0 s.hash) (first_so _ true e))
 
-starts_own : (collection : ℕ) (s : Slot) → s.collection ≡ collection → slot_starts collection s ≡ true
+pub starts_own : (collection : ℕ) (s : Slot) → s.collection ≡ collection → slot_starts collection s ≡ true
 starts_own collection s e =
     ap (λ n. is_le (ordering_then (nat_cmp collection n) (nat_cmp 0 s.hash)) && not false) e
     ∙ ap (λ o. is_le (ordering_then o (nat_cmp 0 s.hash)) && not false) (tied_itself nat_cmp_total collection)
     ∙ ap (λ b. b && not false) (none_below s.hash)
 
 -- slots behind one of a later collection are of later ones
-beyond : {X : Type 0} (collection : ℕ) (s : Slot) (es : List (Slot × X)) → collection < s.collection → AllByRecursion (λ t. slot_cmp s t ≡ Less) (keys_of es) → HasNone collection es
+pub beyond : {X : Type 0} (collection : ℕ) (s : Slot) (es : List (Slot × X)) → collection < s.collection → AllByRecursion (λ t. slot_cmp s t ≡ Less) (keys_of es) → HasNone collection es
 beyond collection s [] less above = refl
 beyond collection s (e ∷ es) less above =
     let h : s.collection ≤ (e.0).collection = le_from_not_gt s.collection (e.0).collection (is_not_above (nat_cmp s.collection (e.0).collection) (nat_cmp s.hash (e.0).hash) above.0) in
@@ -99,7 +99,7 @@ none_from {X} collection (e ∷ es) h =
           (none_from collection es k)
     ] refl h
 
-keys_filter : {K X : Type 0} (p : K → Bool) (es : List (K × X)) → keys_of (filter (λ e. p e.0) es) ≡ filter p (keys_of es)
+pub keys_filter : {K X : Type 0} (p : K → Bool) (es : List (K × X)) → keys_of (filter (λ e. p e.0) es) ≡ filter p (keys_of es)
 keys_filter p [] = refl
 keys_filter {K} {X} p (e ∷ es) =
     elim (p e.0) as (λ b. keys_of (cond b (e ∷ filter (λ e. p e.0) es) (filter (λ e. p e.0) es)) ≡ cond b (e.0 ∷ filter p (keys_of es)) (filter p (keys_of es))) [
@@ -166,7 +166,7 @@ freed collection slot es fs its is =
 pub all_freed : {X : Type 0} (collection : ℕ) (es fs : List (Slot × X)) → filter (λ e. not (nat_eq e.0.collection collection)) fs ≡ filter (λ e. not (nat_eq e.0.collection collection)) es → HasNone collection fs → fs ≡ filter (λ e. not (nat_eq e.0.collection collection)) es
 all_freed collection es fs h none = sym (filter_all (λ e. not (nat_eq e.0.collection collection)) fs none) ∙ h
 
-filter_both : {X : Type 0} (p q r : X → Bool) → ((x : X) → r x ≡ (p x && q x)) → (xs : List X) → filter q (filter p xs) ≡ filter r xs
+pub filter_both : {X : Type 0} (p q r : X → Bool) → ((x : X) → r x ≡ (p x && q x)) → (xs : List X) → filter q (filter p xs) ≡ filter r xs
 filter_both p q r h [] = refl
 filter_both {X} p q r h (x ∷ xs) =
     elim (p x) as (λ b. p x ≡ b → filter q (cond b (x ∷ filter p xs) (filter p xs)) ≡ cond (r x) (x ∷ filter r xs) (filter r xs)) [
@@ -212,7 +212,7 @@ slot_collection : (key : DocKey) → (slot_of key).collection ≡ key.collection
 unfolding slot_of
 slot_collection key = refl
 
-values_kept : {X : Type 0} (p : ℕ → Bool) (es : List (Slot × (DocKey × X))) → InPlace es → values_of (filter (λ e. p e.0.collection) es) ≡ filter (λ e. p e.0.collection) (values_of es)
+pub values_kept : {X : Type 0} (p : ℕ → Bool) (es : List (Slot × (DocKey × X))) → InPlace es → values_of (filter (λ e. p e.0.collection) es) ≡ filter (λ e. p e.0.collection) (values_of es)
 values_kept p [] placed = refl
 values_kept {X} p (e ∷ es) placed =
     elim (p (e.0).collection) as (λ b. p (e.1.0).collection ≡ b → values_of (cond b (e ∷ filter (λ e. p e.0.collection) es) (filter (λ e. p e.0.collection) es)) ≡ cond (p (e.1.0).collection) (e.1 ∷ filter (λ e. p e.0.collection) (values_of es)) (filter (λ e. p e.0.collection) (values_of es))) [

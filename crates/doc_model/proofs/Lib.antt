@@ -1,5 +1,8 @@
 pub mod Entries
 pub mod Drops
 pub mod Searched
+pub mod Weights
 mod Freed
-mod Slots
+pub mod Slots
+mod Apart
+mod Listed

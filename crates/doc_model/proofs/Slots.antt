@@ -5,7 +5,7 @@ use Rattle.std.specs.declared.cmp.Ordering.TheVariants.{Less, Equal, Greater}
 use Rattle.std.specs.List.{AllByRecursion}
 use Rattle.std.specs.List.Sorted.{IsStrictlySortedBy}
 use Rattle.std.specs.Map.{keys_of, values_of, lookup, set_value, remove_entry}
-use Rattle.std.specs.Ordering.{nat_cmp, is_eq, match_ordering}
+use Rattle.std.specs.Ordering.{nat_cmp, is_eq, eq_by_cmp, match_ordering}
 use Rattle.std.specs.Cmp.{IsTotalOrder, eq_by_cmp_equiv, first_so, second_so, nat_eq_equiv}
 use Rattle.std.specs.Cmp.Lexicographic.{pointwise, nat_list_eq_equiv}
 use Rattle.std.specs.BTreeMap.{is_at, insert_entry}
@@ -27,7 +27,7 @@ use Rattle.doc_model.proofs.Entries.{keys_total, same_key, is_equal, value_at, g
 exact_slots : CmpEqualImpliesEq slot_cmp
 exact_slots a b h = ap (λ (p : ℕ × ℕ). record { collection = p.0; hash = p.1 }) (exact_pairs nat_cmp nat_cmp exact_unsigned exact_unsigned (a.collection, a.hash) (b.collection, b.hash) h)
 
-slots_total : IsTotalOrder slot_cmp
+pub slots_total : IsTotalOrder slot_cmp
 slots_total = then_total (on_total (λ s. s.collection) nat_cmp_total) (on_total (λ s. s.hash) nat_cmp_total)
 
 pub same_slot : (a b : Slot) → is_at (slot_cmp a) b ≡ true → a ≡ b
@@ -36,7 +36,7 @@ same_slot a b e = exact_slots a b (is_equal (slot_cmp a b) e)
 pub slot_itself : (a : Slot) → is_at (slot_cmp a) a ≡ true
 slot_itself a = ap is_eq (tied_itself slots_total a)
 
-key_itself : (a : DocKey) → is_at (key_cmp a) a ≡ true
+pub key_itself : (a : DocKey) → is_at (key_cmp a) a ≡ true
 key_itself a = ap is_eq (tied_itself keys_total a)
 
 -- what stands in a slot
@@ -68,12 +68,12 @@ is_not Less e = refl
 is_not Equal e = absurd (cc)
 is_not Greater e = refl
 
-none_later : {X : Type 0} (s : Slot) (es : List (Slot × (DocKey × X))) → AllByRecursion (λ t. slot_cmp s t ≡ Less) (keys_of es) → NonePasses (is_at (slot_cmp s)) es
+pub none_later : {X : Type 0} (s : Slot) (es : List (Slot × (DocKey × X))) → AllByRecursion (λ t. slot_cmp s t ≡ Less) (keys_of es) → NonePasses (is_at (slot_cmp s)) es
 none_later s [] h = tt
 none_later s (e ∷ es) h = (is_not (slot_cmp s e.0) h.0, none_later s es h.1)
 
 -- a key that stands in a slot stands in its own
-found : {X : Type 0} (es : List (Slot × (DocKey × X))) (q : DocKey) → IsStrictlySortedBy slot_cmp (keys_of es) → AllByRecursion (λ e. e.0 ≡ slot_of e.1.0) es → value_at (values_of es) q ≡ own es q
+pub found : {X : Type 0} (es : List (Slot × (DocKey × X))) (q : DocKey) → IsStrictlySortedBy slot_cmp (keys_of es) → AllByRecursion (λ e. e.0 ≡ slot_of e.1.0) es → value_at (values_of es) q ≡ own es q
 found [] q sorted placed = refl
 found {X} (e ∷ es) q sorted placed =
     weigh q e.1 (is_at (key_cmp q) e.1.0) (is_at (slot_cmp (slot_of q)) e.0) (value_at (values_of es) q) (slot_at es (slot_of q)) refl
@@ -81,7 +81,7 @@ found {X} (e ∷ es) q sorted placed =
     (λ is. ap (λ s. slot_at es s) (same_slot (slot_of q) e.0 is) ∙ lookup-none (is_at (slot_cmp e.0)) es (none_later e.0 es (sorted_head slot_cmp e.0 (keys_of es) sorted)))
     (found es q (sorted_tail slot_cmp e.0 (keys_of es) sorted) placed.1)
 
-lookup_both : {K X : Type 0} (test : K → Bool) (es fs : List (K × X)) → lookup test (es ++ fs) ≡ first_of (lookup test es) (lookup test fs)
+pub lookup_both : {K X : Type 0} (test : K → Bool) (es fs : List (K × X)) → lookup test (es ++ fs) ≡ first_of (lookup test es) (lookup test fs)
 lookup_both test [] fs = refl
 lookup_both {K} {X} test (e ∷ es) fs =
     elim (test e.0) as (λ b. cond b (Some e.1) (lookup test (es ++ fs)) ≡ first_of (cond b (Some e.1) (lookup test es)) (lookup test fs)) [
@@ -185,25 +185,32 @@ first_given true x o to f fto h g = ap (λ a. first_of a fto) h
 first_given false x o to f fto h g = ap (λ a. first_of a fto) h ∙ ap (first_of o) (g refl)
 
 -- k has x in its slot
-in_slot : {X : Type 0} (es es' : List (Slot × (DocKey × X))) (fs fs' : List (DocKey × X)) (k : DocKey) (x : X) → ArePlaced es → ArePlaced es' → ((t : Slot) → slot_at es' t ≡ cond (is_at (slot_cmp (slot_of k)) t) (Some (k, x)) (slot_at es t)) → ((q : DocKey) → is_at (key_cmp k) q ≡ false → its q (slot_at es (slot_of k)) ≡ None) → ((q : DocKey) → is_at (key_cmp k) q ≡ false → value_at fs' q ≡ value_at fs q) → joined es' fs' ≡ map.insert (joined es fs) k x
-in_slot es es' fs fs' k x h h' changed before others = one_given (values_of es ++ fs) (values_of es' ++ fs') k x (λ q.
+in_slot : {X : Type 0} (es es' : List (Slot × (DocKey × X))) (fs fs' : List (DocKey × X)) (k : DocKey) (x : X) → ArePlaced es → ArePlaced es' → ((q : DocKey) → own es' q ≡ cond (is_at (key_cmp k) q) (Some x) (own es q)) → ((q : DocKey) → is_at (key_cmp k) q ≡ false → value_at fs' q ≡ value_at fs q) → joined es' fs' ≡ map.insert (joined es fs) k x
+in_slot es es' fs fs' k x h h' slots others = one_given (values_of es ++ fs) (values_of es' ++ fs') k x (λ q.
     let b = is_at (key_cmp k) q in
     value_both es' fs' q h'
-    ∙ first_given b x (own es q) (own es' q) (value_at fs q) (value_at fs' q) (own_changed es es' k (Some (k, x)) (Some x) changed (its_value k x) before q) (others q)
+    ∙ first_given b x (own es q) (own es' q) (value_at fs q) (value_at fs' q) (slots q) (others q)
     ∙ ap (cond b (Some x)) (sym (value_both es fs q h)))
 
 -- k had something in its slot, and has x there
-pub replaced : {X : Type 0} (es es' : List (Slot × (DocKey × X))) (fs : List (DocKey × X)) (s : Slot) (k : DocKey) (p : DocKey × X) (x : X) → s ≡ slot_of k → p.0 ≡ k → Some p ≡ slot_at es s → ((t : Slot) → slot_at es' t ≡ cond (is_at (slot_cmp s) t) (Some (p.0, x)) (slot_at es t)) → ArePlaced es → ArePlaced es' → joined es' fs ≡ map.insert (joined es fs) k x
-replaced es es' fs s k p x is same there changed h h' = in_slot es es' fs fs k x h h'
+pub replaced_own : {X : Type 0} (es es' : List (Slot × (DocKey × X))) (s : Slot) (k : DocKey) (p : DocKey × X) (x : X) → s ≡ slot_of k → p.0 ≡ k → Some p ≡ slot_at es s → ((t : Slot) → slot_at es' t ≡ cond (is_at (slot_cmp s) t) (Some (p.0, x)) (slot_at es t)) → (q : DocKey) → own es' q ≡ cond (is_at (key_cmp k) q) (Some x) (own es q)
+replaced_own es es' s k p x is same there changed = own_changed es es' k (Some (k, x)) (Some x)
     (λ t. changed t ∙ ap (λ r. cond (is_at (slot_cmp r) t) (Some (p.0, x)) (slot_at es t)) is ∙ ap (λ r. cond (is_at (slot_cmp (slot_of k)) t) (Some (r, x)) (slot_at es t)) same)
+    (its_value k x)
     (λ q apart. ap (its q) (ap (slot_at es) (sym is) ∙ sym there) ∙ alone k q p same apart)
-    (λ q _. refl)
+
+pub replaced : {X : Type 0} (es es' : List (Slot × (DocKey × X))) (fs : List (DocKey × X)) (s : Slot) (k : DocKey) (p : DocKey × X) (x : X) → s ≡ slot_of k → p.0 ≡ k → Some p ≡ slot_at es s → ((t : Slot) → slot_at es' t ≡ cond (is_at (slot_cmp s) t) (Some (p.0, x)) (slot_at es t)) → ArePlaced es → ArePlaced es' → joined es' fs ≡ map.insert (joined es fs) k x
+replaced es es' fs s k p x is same there changed h h' = in_slot es es' fs fs k x h h' (replaced_own es es' s k p x is same there changed) (λ q _. refl)
 
 -- its slot was free, and it has x there
-pub taken : {X : Type 0} (es es' : List (Slot × (DocKey × X))) (fs fs' : List (DocKey × X)) (s : Slot) (k c : DocKey) (x : X) → s ≡ slot_of k → c ≡ k → None ≡ slot_at es s → ((t : Slot) → slot_at es' t ≡ cond (is_at (slot_cmp s) t) (Some (c, x)) (slot_at es t)) → ((q : DocKey) → value_at fs' q ≡ cond (is_at (key_cmp k) q) None (value_at fs q)) → ArePlaced es → ArePlaced es' → joined es' fs' ≡ map.insert (joined es fs) k x
-taken es es' fs fs' s k c x is same free changed others h h' = in_slot es es' fs fs' k x h h'
+pub taken_own : {X : Type 0} (es es' : List (Slot × (DocKey × X))) (s : Slot) (k c : DocKey) (x : X) → s ≡ slot_of k → c ≡ k → None ≡ slot_at es s → ((t : Slot) → slot_at es' t ≡ cond (is_at (slot_cmp s) t) (Some (c, x)) (slot_at es t)) → (q : DocKey) → own es' q ≡ cond (is_at (key_cmp k) q) (Some x) (own es q)
+taken_own es es' s k c x is same free changed = own_changed es es' k (Some (k, x)) (Some x)
     (λ t. changed t ∙ ap (λ r. cond (is_at (slot_cmp r) t) (Some (c, x)) (slot_at es t)) is ∙ ap (λ r. cond (is_at (slot_cmp (slot_of k)) t) (Some (r, x)) (slot_at es t)) same)
+    (its_value k x)
     (λ q apart. ap (its q) (ap (slot_at es) (sym is) ∙ sym free))
+
+pub taken : {X : Type 0} (es es' : List (Slot × (DocKey × X))) (fs fs' : List (DocKey × X)) (s : Slot) (k c : DocKey) (x : X) → s ≡ slot_of k → c ≡ k → None ≡ slot_at es s → ((t : Slot) → slot_at es' t ≡ cond (is_at (slot_cmp s) t) (Some (c, x)) (slot_at es t)) → ((q : DocKey) → value_at fs' q ≡ cond (is_at (key_cmp k) q) None (value_at fs q)) → ArePlaced es → ArePlaced es' → joined es' fs' ≡ map.insert (joined es fs) k x
+taken es es' fs fs' s k c x is same free changed others h h' = in_slot es es' fs fs' k x h h' (taken_own es es' s k c x is same free changed)
     (λ q apart. others q ∙ ap (λ b. cond b None (value_at fs q)) apart)
 
 second_given : {X : Type 0} (b : Bool) (x : X) (o f fto : Option X) → (b ≡ true → o ≡ None) → fto ≡ cond b (Some x) f → first_of o fto ≡ cond b (Some x) (first_of o f)
@@ -233,13 +240,14 @@ gone es es' fs fs' k slots others h h' = one_removed (values_of es ++ fs) (value
     value_both es' fs' q h' ∙ both_gone b (own es q) (own es' q) (value_at fs q) (value_at fs' q) (slots q) (others q) ∙ ap (cond b None) (sym (value_both es fs q h)))
 
 -- k stood in its slot, and is gone
-pub slot_freed : {X : Type 0} (es es' : List (Slot × (DocKey × X))) (fs fs' : List (DocKey × X)) (s : Slot) (k : DocKey) (p : DocKey × X) → s ≡ slot_of k → p.0 ≡ k → Some p ≡ slot_at es s → ((t : Slot) → slot_at es' t ≡ cond (is_at (slot_cmp s) t) None (slot_at es t)) → ((q : DocKey) → value_at fs' q ≡ cond (is_at (key_cmp k) q) None (value_at fs q)) → ArePlaced es → ArePlaced es' → joined es' fs' ≡ map.remove (joined es fs) k
-slot_freed es es' fs fs' s k p is same there changed others h h' = gone es es' fs fs' k
-    (own_changed es es' k None None
+pub freed_own : {X : Type 0} (es es' : List (Slot × (DocKey × X))) (s : Slot) (k : DocKey) (p : DocKey × X) → s ≡ slot_of k → p.0 ≡ k → Some p ≡ slot_at es s → ((t : Slot) → slot_at es' t ≡ cond (is_at (slot_cmp s) t) None (slot_at es t)) → (q : DocKey) → own es' q ≡ cond (is_at (key_cmp k) q) None (own es q)
+freed_own es es' s k p is same there changed = own_changed es es' k None None
     (λ t. changed t ∙ ap (λ r. cond (is_at (slot_cmp r) t) None (slot_at es t)) is)
     (λ q. nothing (is_at (key_cmp k) q))
-    (λ q apart. ap (its q) (ap (slot_at es) (sym is) ∙ sym there) ∙ alone k q p same apart))
-    others h h'
+    (λ q apart. ap (its q) (ap (slot_at es) (sym is) ∙ sym there) ∙ alone k q p same apart)
+
+pub slot_freed : {X : Type 0} (es es' : List (Slot × (DocKey × X))) (fs fs' : List (DocKey × X)) (s : Slot) (k : DocKey) (p : DocKey × X) → s ≡ slot_of k → p.0 ≡ k → Some p ≡ slot_at es s → ((t : Slot) → slot_at es' t ≡ cond (is_at (slot_cmp s) t) None (slot_at es t)) → ((q : DocKey) → value_at fs' q ≡ cond (is_at (key_cmp k) q) None (value_at fs q)) → ArePlaced es → ArePlaced es' → joined es' fs' ≡ map.remove (joined es fs) k
+slot_freed es es' fs fs' s k p is same there changed others h h' = gone es es' fs fs' k (freed_own es es' s k p is same there changed) others h h'
 
 not_there : {X : Type 0} (b : Bool) (o : Option X) → (b ≡ true → o ≡ None) → o ≡ cond b None o
 not_there true o h = h refl
@@ -302,3 +310,11 @@ from_others es fs m q r view h is e = e ∙ sym (ap (λ n. map.get n q) (sym vie
 pub at_err : {T E P : Type 0} (r : Result T E) → P → OnErr r P
 at_err (Ok x) p = tt
 at_err (Err e) p = p
+
+-- `==` of keys, and their order
+pub same_tests : (a b : DocKey) → eq_keys a b ≡ eq_by_cmp key_cmp a b
+same_tests a b = go (eq_keys a b) refl
+  where
+    go : (r : Bool) → r ≡ eq_keys a b → r ≡ eq_by_cmp key_cmp a b
+    go true e = sym (ap (eq_by_cmp key_cmp a) (sym (told_same a b true e refl)) ∙ key_itself a)
+    go false e = sym ((eq_by_cmp_equiv keys_total).symm a b ∙ told_apart a b false e refl)

@@ -1,12 +1,18 @@
-ghost use Rattle.std.specs.Prelude.{◌≡◌, not, IfOk, OnOk, OnErr};
+ghost use Rattle.std.specs.Prelude.{◌≡◌, ◌++◌, ◌<◌, ◌^◌, ◌&&◌, not, is_some, map as list_map, if◌then◌else◌, IfOk, OnOk, OnErr};
+ghost use Rattle.std.specs.Map.{lookup};
+ghost use Rattle.std.specs.BTreeMap.{is_at, IsOrdered};
+ghost use Rattle.doc_model.specs.declared.key.DocKey.{DocKey};
 ghost use Rattle.std.specs.List.Sorted.{IsNonDecreasing};
 ghost use Rattle.std.specs.Option.{option_copied};
 ghost use Rattle.std.specs.FinMap as map;
-ghost use Rattle.doc_model.specs.Keys.{is_in};
+ghost use Rattle.doc_model.specs.Keys.{key_cmp, is_in};
+ghost use Rattle.doc_model.specs.Values.{AreValues, weight_of, of_collection};
 
 use crate::dropping::{remove_others, remove_slots};
 use crate::key::DocKey;
 use crate::slot::{Slot, slot_of};
+use crate::values::Values;
+use crate::weighing::{Weigh, others_weight, slots_weight};
 use kv_edge::{Copied, NoMemory};
 use std::alloc::Global;
 use std::collections::BTreeMap;
@@ -32,7 +38,7 @@ impl<V> Model for KeyMap<V> {
     ghost use Rattle.std.specs.FinMap as map;
     ghost use Rattle.std.specs.Map.{values_of};
     ghost use Rattle.doc_model.specs.Keys.{key_cmp, coded_key};
-    ghost use Rattle.doc_model.specs.Slots.{ArePlaced};
+    ghost use Rattle.doc_model.specs.Slots.{AreTrees};
 
     ghost Value = { map.FinMap key_cmp V };
 
@@ -40,7 +46,7 @@ impl<V> Model for KeyMap<V> {
 
     ghost view = { λ m. map.from_entries (values_of m.slots.entries ++ m.others.entries) };
 
-    ghost invariant = { λ m. ArePlaced m.slots.entries };
+    ghost invariant = { λ m. AreTrees m.slots.entries m.others.entries };
 }
 
 impl<V> KeyMap<V> {
@@ -87,6 +93,22 @@ impl<V> KeyMap<V> {
         Ok(self.others.remove(key))
     }
 
+    /// Sets what the key has, where it has anything, and answers what it had. It takes no memory. Where the key has nothing,
+    /// the map is as before, and the new value is dropped.
+    pub fn replace(&mut self, key: &DocKey, value: V) -> Option<V>
+    where
+        V: Drop,
+        ensures before { result ≡ map.get self.old key.now }
+        ensures replaced { self.new ≡ (if is_some (map.get self.old key.now) then map.insert self.old key.now value else self.old) }
+    {
+        if let Some(entry) = self.slots.get_mut(&slot_of(key)) {
+            if entry.0 == *key {
+                return Some(mem::replace(&mut entry.1, value));
+            }
+        }
+        replace_other(&mut self.others, key, value)
+    }
+
     /// Takes away what the key has, and answers it.
     pub fn remove(&mut self, key: &DocKey) -> Option<V>
     where
@@ -118,5 +140,37 @@ impl<V> KeyMap<V> {
     {
         remove_slots(&mut self.slots, collections);
         remove_others(&mut self.others, collections);
+    }
+
+    /// The values, that of each key once, in an order that is left open.
+    pub fn values(&self) -> Values<'_, V>
+        ensures { AreValues self.now (list_map (λ e. e.1) result.slots ++ result.others) }
+    {
+        Values {
+            slots: self.slots.values(),
+            others: self.others.values(),
+        }
+    }
+
+    /// What the values of a collection's keys count together. It costs a step for each key of the collection, and one for
+    /// each key, of whatever collection, that found its slot taken.
+    pub fn weight_in<W: Weigh<V>>(&self, scale: &W, collection: u32) -> u64
+        requires { weight_of W.weight self.now < 2 ^ 64 }
+        ensures { result ≡ weight_of W.weight (of_collection collection self.now) }
+    {
+        slots_weight(&self.slots, scale, collection)
+            + others_weight(&self.others, scale, collection)
+    }
+}
+
+/// Sets what a key has that found its slot taken, where it has anything, and answers what it had.
+fn replace_other<V: Drop>(others: &mut BTreeMap<DocKey, V>, key: &DocKey, value: V) -> Option<V>
+    ensures before { result ≡ lookup (is_at (key_cmp key.now)) others.old.entries }
+    ensures replaced { (other : DocKey) → lookup (is_at (key_cmp other)) others.new.entries ≡ (if is_some result && is_at (key_cmp key.now) other then Some value else lookup (is_at (key_cmp other)) others.old.entries) }
+    ensures ordered { IsOrdered key_cmp others.new }
+{
+    match others.get_mut(key) {
+        Some(there) => Some(mem::replace(there, value)),
+        None => None,
     }
 }

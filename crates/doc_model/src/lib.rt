@@ -11,6 +11,8 @@ mod limits;
 mod numbers;
 mod slot;
 mod status;
+mod values;
+mod weighing;
 
 pub use document::{Doc, Item, What};
 pub use key::DocKey;
@@ -18,6 +20,8 @@ pub use key_map::KeyMap;
 pub use limits::{KEY_LIMIT, MANIFEST_LIMIT, OTHER_KEY_LIMIT, VALUE_LIMIT, limit_numbers};
 pub use numbers::status_numbers;
 pub use status::{Refused, Status};
+pub use values::Values;
+pub use weighing::Weigh;
 
 #[cfg(test)]
 mod tests;

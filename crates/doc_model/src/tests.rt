@@ -146,6 +146,37 @@ fn collections_are_taken_away_and_no_others(rt: HostRuntime) -> Result<(), Fail>
     Ok(())
 }
 
+/// `coma` and `gmjg` have one slot, so one of them stands among the others.
+#[test]
+fn values_stand_once_and_are_replaced_where_they_are(rt: HostRuntime) -> Result<(), Fail> {
+    let alloc = rt.alloc();
+    let mut map = KeyMap::<u8>::new(alloc);
+    let names: [(u32, &[u8], u8); 5] = [
+        (0, b"a", 1),
+        (8, b"coma", 2),
+        (8, b"gmjg", 4),
+        (8, b"a", 8),
+        (9, b"coma", 16),
+    ];
+    for (collection, name, value) in names {
+        map.insert(alloc, &key(alloc, collection, name)?, value)?;
+    }
+    let mut sum = 0u8;
+    let mut count = 0u8;
+    for value in map.values() {
+        sum = sum.saturating_add(*value);
+        count = count.saturating_add(1);
+    }
+    assert_eq!(rt; (sum, count), (31, 5));
+    assert_eq!(rt; map.replace(&key(alloc, 8, b"gmjg")?, 32), Some(4));
+    assert_eq!(rt; map.replace(&key(alloc, 8, b"coma")?, 64), Some(2));
+    assert_eq!(rt; map.replace(&key(alloc, 7, b"coma")?, 128), None);
+    assert_eq!(rt; map.get(&key(alloc, 7, b"coma")?).copied(), None);
+    assert_eq!(rt; map.get(&key(alloc, 8, b"gmjg")?).copied(), Some(32));
+    assert_eq!(rt; map.get(&key(alloc, 8, b"coma")?).copied(), Some(64));
+    Ok(())
+}
+
 #[test]
 fn want_of_memory_is_a_refusal_of_its_own(rt: HostRuntime) {
     assert_eq!(rt; Refused::from(NoMemory), Refused::NoMemory);

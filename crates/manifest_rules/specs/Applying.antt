@@ -4,6 +4,7 @@ use Rattle.std.specs.Option.{option_map_or}
 use Rattle.doc_model.specs.declared.status.Status.{Status}
 use Rattle.doc_model.specs.declared.status.TheConstants.Status as status
 use Rattle.manifest_rules.specs.declared.applying.Taken.{Taken}
+use Rattle.manifest_rules.specs.declared.applying.Dropped.{Dropped}
 use Rattle.manifest_rules.specs.declared.types.Scope.{Scope}
 use Rattle.manifest_rules.specs.Catalog.{Catalog, scope_ids, collection_ids}
 use Rattle.manifest_rules.specs.Form.{manifest_in}
@@ -13,6 +14,11 @@ use Rattle.manifest_rules.specs.State.{are_rising}
 -- what bytes come to as a manifest over the one that is there
 abbrev pub text_step : Catalog → List ℕ → Result Step Status
 text_step old text = option_map_or (λ new. manifest_step old new) (manifest_in text) (Err status.EINVAL)
+
+-- a step drops these collections, and changes something or doesn't
+abbrev pub Drops : Result Step Status → Dropped → Type 0
+Drops (Ok step) dropped = (step.dropped ≡ dropped.collections) × (step.changed ≡ dropped.changed)
+Drops (Err refusing) dropped = ⊥
 
 -- a manifest before which nothing was dropped
 abbrev pub bare : ℕ → List Scope → Catalog

@@ -1,12 +1,12 @@
 ghost use Rattle.std.specs.Prelude.{◌≡◌, [], false, Ok, IfOk, IfErr, IfSome, OnErr, IsTrue, ◌&&◌};
 ghost use Rattle.std.specs.Cmp.Lexicographic.{pointwise};
 ghost use Rattle.manifest_rules.specs.Catalog.{scope_ids, collection_ids};
-ghost use Rattle.manifest_rules.specs.Rules.{same_scope, is_small, obeys_alone, follows, obeys, manifest_step, IsRefusedStep};
-ghost use Rattle.manifest_rules.specs.Applying.{text_step, bare, ComesTo, BothRise, taken_of, taken_if};
+ghost use Rattle.manifest_rules.specs.Rules.{same_scope, is_small, obeys_alone, follows, obeys, manifest_step, lost, IsRefusedStep};
+ghost use Rattle.manifest_rules.specs.Applying.{text_step, bare, ComesTo, BothRise, taken_of, taken_if, Drops};
 ghost use Rattle.manifest_rules.specs.State.{is_kept};
 
 use crate::following::follows;
-use crate::ids::{lost_ids, with_ids};
+use crate::ids::{ids_of_collections, lost_ids, with_ids};
 use crate::manifest::{
     Manifest, dropped_collections, dropped_scopes, manifest_of, scopes, uid, with_dropped,
 };
@@ -77,6 +77,31 @@ pub fn apply_text(alloc: Global, old: &mut Manifest, text: &[u8]) -> Result<Drop
         }
         None => Ok(nothing_dropped(alloc)),
     }
+}
+
+/// What `apply_text` would do with these bytes, which changes nothing. The status is the one with which it would refuse
+/// them.
+pub fn foresee_text(alloc: Global, old: &Manifest, text: &[u8]) -> Result<Dropped, Refused>
+    ensures step { IfOk result (Drops (text_step old.now text.now)) }
+    ensures refused { IfErr result (IsRefusedStep (text_step old.now text.now)) }
+{
+    let Parts { uid, scopes } = read_parts(alloc, text)?;
+    match outcome(alloc, old, uid, scopes.as_slice())? {
+        Some(taken) => Ok(Dropped {
+            collections: taken.dropped,
+            changed: true,
+        }),
+        None => Ok(nothing_dropped(alloc)),
+    }
+}
+
+/// The ids of the collections that a manifest has and another hasn't.
+pub fn lost_collections(alloc: Global, old: &Manifest, new: &Manifest) -> Result<Seq<u32>, NoMemory>
+    ensures { IfOk result (λ ids. ids ≡ lost (collection_ids old.now.scopes) (collection_ids new.now.scopes)) }
+{
+    let before = ids_of_collections(alloc, scopes(old))?;
+    let after = ids_of_collections(alloc, scopes(new))?;
+    Ok(Seq::from_vec(lost_ids(alloc, before.as_slice(), after.as_slice())?))
 }
 
 /// What a manifest did that changes nothing.

@@ -70,7 +70,7 @@ mod state;
 mod types;
 mod writing;
 
-pub use applying::{Dropped, apply, apply_text};
+pub use applying::{Dropped, apply, apply_text, foresee_text, lost_collections};
 pub use laws::{
     dropped_ids_are_the_lost, equal_changes_nothing, kept_stays_kept, manifest_numbers,
     no_id_comes_back, one_broken_place, state_is_read_back, text_is_read_back,
@@ -78,7 +78,7 @@ pub use laws::{
 pub use manifest::{Manifest, dropped_collections, dropped_scopes, first, has, max_ttl, uid};
 pub use paths::{collection_of, scope_of};
 pub use reading::read_manifest;
-pub use state::{StateFault, read_state, state_into};
+pub use state::{StateFault, is_kept, read_state, state_into};
 pub use types::{COUNT_LIMIT, Collection, DROPPED_LIMIT, NAME_LIMIT, Scope};
 pub use writing::text;
 

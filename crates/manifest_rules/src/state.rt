@@ -5,7 +5,7 @@ ghost use Rattle.manifest_rules.specs.Text.{text_of};
 ghost use Rattle.manifest_rules.specs.State.{are_rising, is_sound, are_gone, is_kept, ids_bytes, text_bytes, state_of, IsAt, SoundText, TextAt, NoCount, CountAt, NoId, IdAt, IdsAt, IsTextFault, IsIdsFault, IsNoState};
 ghost use Rattle.manifest_rules.specs.declared.state.StateFault.TheVariants as faults;
 
-use crate::ids::{is_among_sorted, sorted};
+use crate::ids::{is_among_sorted, share_id, sorted};
 use crate::manifest::{Manifest, dropped_collections, dropped_scopes, scopes, uid, with_dropped};
 use crate::reading::read_manifest;
 use crate::sound::{ids_of, obeys_itself};
@@ -161,6 +161,28 @@ fn is_sound(alloc: Global, manifest: &Manifest) -> Result<bool, NoMemory>
 {
     let ids = ids_of(alloc, scopes(manifest))?;
     obeys_itself(alloc, uid(manifest), scopes(manifest), &ids)
+}
+
+/// Whether a manifest may be kept: it obeys its own rules, not too many ids were dropped, and none of them is there.
+pub fn is_kept(alloc: Global, manifest: &Manifest) -> Result<bool, NoMemory>
+    ensures { IfOk result (λ b. b ≡ is_kept manifest.now) }
+{
+    if !is_sound(alloc, manifest)? {
+        return Ok(false);
+    }
+    let ids = ids_of(alloc, scopes(manifest))?;
+    Ok(
+        are_gone(ids.scopes.as_slice(), dropped_scopes(manifest))
+            && are_gone(ids.collections.as_slice(), dropped_collections(manifest)),
+    )
+}
+
+/// Whether rising ids may have been dropped where others are there.
+fn are_gone(present: &[u32], gone: &[u32]) -> bool
+    requires { IsTrue (are_rising gone.now) }
+    ensures { result ≡ are_gone present.now gone.now }
+{
+    gone.len() <= DROPPED_LIMIT && !share_id(present, gone)
 }
 
 /// Reads, behind so many bytes, a count of ids and the ids, which may have been dropped where others are there, and tells

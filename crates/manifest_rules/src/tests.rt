@@ -3,7 +3,8 @@ ghost use Rattle.manifest_rules.specs.State.{is_kept};
 
 use crate::{
     Dropped, Manifest, StateFault, apply, apply_text, collection_of, dropped_collections, first,
-    has, kept_stays_kept, max_ttl, read_manifest, read_state, scope_of, state_into, text, uid,
+    foresee_text, has, is_kept, kept_stays_kept, lost_collections, max_ttl, read_manifest,
+    read_state, scope_of, state_into, text, uid,
 };
 use doc_model::{Refused, Status};
 use kv_edge::NoMemory;
@@ -97,6 +98,28 @@ fn without_fruit(alloc: Global) -> Result<Manifest, NoMemory>
     let mut manifest = with_fruit(alloc)?;
     over(alloc, &mut manifest, LATER)?;
     Ok(manifest)
+}
+
+#[test]
+fn what_a_manifest_would_drop_is_foreseen(rt: HostRuntime) -> Result<(), Fail> {
+    let alloc = rt.alloc();
+    let before = with_fruit(alloc)?;
+    let after = without_fruit(alloc)?;
+    match foresee_text(alloc, &before, LATER.as_bytes()) {
+        Ok(dropped) => {
+            assert_eq!(rt; dropped.collections.as_slice(), [8].as_slice());
+            assert!(rt; dropped.changed);
+        }
+        Err(refused) => assert_eq!(rt; refused, Refused::Status(Status::SUCCESS)),
+    }
+    assert_eq!(rt; uid(&before), 1);
+    assert_eq!(rt;
+        lost_collections(alloc, &before, &after)?.as_slice(),
+        [8].as_slice()
+    );
+    assert!(rt; lost_collections(alloc, &after, &before)?.is_empty());
+    assert!(rt; is_kept(alloc, &after)?);
+    Ok(())
 }
 
 #[test]

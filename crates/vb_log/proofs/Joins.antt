@@ -73,7 +73,7 @@ text_moves : (m : Catalog) (id : ℕ) (o : Option Catalog) (step : Step) → opt
 text_moves m id None step e = absurd (cc)
 text_moves m id (Some new) step e = step_moves m new step id e
 
-entry_does : (c : Content) (q : DocKey) (e : Entry) → allowed c e ≡ true → Does c q (with_entry c e)
+pub entry_does : (c : Content) (q : DocKey) (e : Entry) → allowed c e ≡ true → Does c q (with_entry c e)
 entry_does c q (entries.Mutation key doc) h = gives_or_leaves c (with_entry c (entries.Mutation key doc)) key q (whats.Put doc) (and_parts (is_none (prepare_of c.prepares key)) (has_collection c.manifest key.collection) h).1 refl refl
 entry_does c q (entries.Deletion key cas) h = gives_or_leaves c (with_entry c (entries.Deletion key cas)) key q (whats.Remove cas) (and_parts (is_none (prepare_of c.prepares key)) (has_collection c.manifest key.collection) h).1 refl refl
 entry_does c q (entries.Prepare key what level) h = Leaves refl refl
@@ -83,7 +83,7 @@ entry_does c q (entries.Manifest text) h = turns_by c (with_entry c (entries.Man
 
 -- ---- keys of collections that aren't there have nothing
 
-abbrev IsTidy : Content → Type 0
+abbrev pub IsTidy : Content → Type 0
 IsTidy c = (q : DocKey) → has_collection c.manifest q.collection ≡ false → map.get c.items q ≡ None
 
 dropped_none : (after before : Bool) (listed : Bool) (o : Option Item) → listed ≡ (not after && before) → after ≡ false → (before ≡ false → o ≡ None) → cond (not listed) o None ≡ None
@@ -93,7 +93,7 @@ dropped_none false true false o e f h = absurd (cc)
 dropped_none false false true o e f h = absurd (cc)
 dropped_none false false false o e f h = h refl
 
-tidy_does : (c d : Content) (q : DocKey) → IsTidy c → Does c q d → has_collection d.manifest q.collection ≡ false → map.get d.items q ≡ None
+pub tidy_does : (c d : Content) (q : DocKey) → IsTidy c → Does c q d → has_collection d.manifest q.collection ≡ false → map.get d.items q ≡ None
 tidy_does c d q tidy (Leaves e f) h = e ∙ tidy q (ap (λ (m : Catalog). has_collection m q.collection) (sym f) ∙ h)
 tidy_does c d q tidy (Gives item n e has f) h = absurd (let z : true ≡ false = sym has ∙ ap (λ (m : Catalog). has_collection m q.collection) (sym f) ∙ h in cc)
 tidy_does c d q tidy (Turns step moves f e) h =

@@ -66,7 +66,7 @@ passing_one size test bytes a b r s p q =
     let same = same_run (spelt_key a) (spelt_key b) r s (sym p.front ∙ q.front) (p.whole ∙ sym q.whole) in
     record { one = one_key a b p.allowed q.allowed same.one; rest = same.rest }
 
-state_one : (bytes : List ℕ) (a b : Catalog) (r s : List ℕ) → StateAt bytes a r → StateAt bytes b s → Same a b r s
+pub state_one : (bytes : List ℕ) (a b : Catalog) (r s : List ℕ) → StateAt bytes a r → StateAt bytes b s → Same a b r s
 state_one bytes a b r s p q =
     let one = same_state a b r s p.kept q.kept (sym p.front ∙ q.front) in
     record { one = one; rest = (same_run (state_of a) (state_of b) r s (sym p.front ∙ q.front) (ap (λ m. length (state_of m)) one)).rest }

@@ -7,4 +7,11 @@ pub mod Spelt
 pub mod Layouts
 pub mod Pieces
 pub mod Entries
+pub mod PendingBytes
+pub mod ItemBytes
+pub mod StatePlaces
+pub mod Sorting
+pub mod Weighing
+pub mod ContentBytes
 pub mod Prepared
+pub mod Holding

@@ -1,220 +1,226 @@
--- Changes that wait and their bytes, one after another.
-use Rattle.std.specs.Prelude.{◌≡◌, ℕ, zero, suc, ◌+◌, ◌-◌, ◌≤◌, ◌<◌, ◌^◌, List, [], ◌∷◌, ◌++◌, length, drop, get_or, refl}
-use Rattle.std.specs.List.{flat_map}
-use Rattle.std.specs.Int.{w32, w64, to_be_bytes}
-use Rattle.std.proofs.Common.{sym, ap, ap₂, ◌∙◌, subst, append_assoc, append-nil, arith}
-use Rattle.std.proofs.lemmas.List.{length-append, drop_at}
-use Rattle.vb_log.specs.declared.bounds.Bounds.{Bounds}
+-- Lists of changes that wait: where one stands, what they count, and their positions.
+use Rattle.std.specs.Prelude.{◌≡◌, ℕ, ◌+◌, ◌<◌, ◌≤◌, nat_eq, nat_lt, nat_le, is_some, find, filter, position, map as list_map, sum, Bool, true, false, cond, not, ◌&&◌, ◌||◌, List, [], ◌∷◌, ◌++◌, length, take, drop, Option, Some, None, refl}
+use Rattle.std.specs.List.{list_any, list_all, position_or_len, remove, sum_by}
+use Rattle.std.specs.Ordering.{eq_by_cmp}
+use Rattle.std.proofs.Common.{zero, suc, sym, ◌∙◌, ap, subst, get_or, arith}
+use Rattle.std.proofs.lemmas.Bool.{and_parts, and_from, lt-ltb, ltb-true, eqb-true}
+use Rattle.std.proofs.lemmas.Bool.Decides.{nat_tests}
+use Rattle.std.proofs.lemmas.List.Sums.{sum_by-cons, sum-map, sum_by-remove}
+use Rattle.doc_model.specs.declared.key.DocKey.{DocKey}
+use Rattle.doc_model.specs.Keys.{key_cmp}
+use Rattle.manifest_rules.specs.State.{are_rising}
 use Rattle.vb_log.specs.declared.entry.Pending.{Pending}
-use Rattle.vb_log.specs.declared.fields.FieldFault.{FieldFault}
-use Rattle.vb_log.specs.declared.limits.TheConstants.{GREATEST_LEVEL, GREATEST_POSITION}
-use Rattle.vb_log.specs.Faults.{IsBroken, PendingBreaksAt}
-use Rattle.vb_log.specs.Keys.{key_bytes}
-use Rattle.vb_log.specs.Layout.{Layout, end, run, as_value, four, eight, Fits, Breaks, NumberAt}
-use Rattle.vb_log.specs.Prepares.{widest, AreBounds, IsWaiting, AreWaiting, IsPendingWithin, IsAllowedPending, waiting_bytes, pending_bytes, waiting_layout, all_waiting_layout, pending_layout, WaitingAt, AllWaitingAt, PendingAt}
-use Rattle.vb_log.specs.Spelling.{what_bytes, key_layout, what_layout}
-use Rattle.vb_log.proofs.Layouts.{Same, same_byte, same_number, no_fit, one_place, left_within, Leads, leads_on, byte_leads, number_leads, broken_behind}
-use Rattle.vb_log.proofs.Pieces.{key_leads, what_leads}
-use Rattle.vb_log.proofs.Entries.{same_key, same_what}
+use Rattle.vb_log.specs.Content.{prepare_at, prepare_of, other_than}
+use Rattle.vb_log.specs.Held.{pending_weight, pending_size, waiting_size, positions_rise}
 
--- ---- one change that waits
+-- ---- the first that passes
 
--- its fields, one behind the other
-parted : (p : Pending) (r : List ℕ) → waiting_bytes p ++ r ≡ to_be_bytes w64 p.position ++ (p.level ∷ (key_bytes p.key ++ (what_bytes p.what ++ r)))
-parted p r = regroup (to_be_bytes w64 p.position) (p.level ∷ []) (key_bytes p.key) (what_bytes p.what) r
+abbrev at_position : ℕ → Pending → Bool
+at_position of p = nat_eq p.position of
+
+pub some_any : {A : Type 0} (p : A → Bool) (xs : List A) → is_some (find p xs) ≡ list_any p xs
+some_any p [] = refl
+some_any {A} p (x ∷ xs) = go (p x) (some_any p xs)
   where
-    regroup : (u v w x r : List ℕ) → (u ++ (v ++ (w ++ x))) ++ r ≡ u ++ (v ++ (w ++ (x ++ r)))
-    regroup u v w x r = simp append_assoc
+    go : (b : Bool) → is_some (find p xs) ≡ list_any p xs → is_some (cond b (Some x) (find p xs)) ≡ (b || list_any p xs)
+    go true h = refl
+    go false h = h
 
-pub waiting_leads : (bounds : Bounds) (before : ℕ) (next : ℕ → Layout) (bytes : List ℕ) (p : Pending) (rest : List ℕ) → AreBounds bounds → WaitingAt bounds before bytes p rest → Leads (waiting_layout bounds before next) bytes (next p.position) rest
-waiting_leads bounds before next bytes p rest wide at =
-    let h = at.allowed in
-    let what = what_bytes p.what ++ rest in
-    let key = key_bytes p.key ++ what in
-    let level = p.level ∷ key in
-    let later = h.later in
-    let within = h.within in
-    let last = wide.last in
-    let change = what_layout bounds.cas (next p.position) in
-    leads_on (waiting_layout bounds before next) bytes (key_layout change) key (next p.position) rest
-    (leads_on (waiting_layout bounds before next) bytes _ level (key_layout change) key
-    (number_leads eight (before + 1) bounds.last _ bytes p.position level (record { front = at.front ∙ parted p rest; above = omega arith; below = within; small = omega arith }))
-    (byte_leads 1 GREATEST_LEVEL (λ level. key_layout change) level p.level key (record { front = refl; above = h.least; below = h.most })))
-    (leads_on (key_layout change) key change what (next p.position) rest
-    (key_leads change key p.key what (record { allowed = h.key; front = refl }))
-    (what_leads bounds.cas (next p.position) what p.what rest (record { allowed = h.what; within = h.cas; unnumbered = h.unnumbered; front = refl })))
+-- a place as a number, within the list
+pub record Stands {A : Type 0} (p : A → Bool) (xs : List A) (i : ℕ) : Type 0 where
+  pub within : i < length xs
+  pub place : position_or_len p xs ≡ i
 
-same_waiting : (bounds : Bounds) (x y : ℕ) (a b : Pending) (r s : List ℕ) → AreBounds bounds → IsWaiting bounds x a → IsWaiting bounds y b → waiting_bytes a ++ r ≡ waiting_bytes b ++ s → Same a b r s
-same_waiting bounds x y a b r s wide h k e =
-    let last = wide.last in
-    let low = h.within in
-    let high = k.within in
-    let position = same_number eight a.position b.position _ _ (omega arith) (omega arith) (sym (parted a r) ∙ e ∙ parted b s) in
-    let level = same_byte a.level b.level _ _ position.rest in
-    let key = same_key a.key b.key _ _ h.key k.key level.rest in
-    let what = same_what a.what b.what r s h.what k.what h.unnumbered k.unnumbered key.rest in
-    record { one = λ i. record { position = position.one i; level = level.one i; key = key.one i; what = what.one i }; rest = what.rest }
+pub stands_at : {A : Type 0} (p : A → Bool) (xs : List A) (i : ℕ) → Some i ≡ position p xs → Stands p xs i
+stands_at {A} p xs i e = go (nat_lt (position_or_len p xs) (length xs)) refl e
+  where
+    same : (a b : ℕ) → Some a ≡ Some b → a ≡ b
+    same a b q = cc
 
--- ---- one after another
+    go : (b : Bool) → nat_lt (position_or_len p xs) (length xs) ≡ b → Some i ≡ cond b (Some (position_or_len p xs)) None → Stands p xs i
+    go true l e = let is = sym (same i (position_or_len p xs) e) in let less = ltb-true (position_or_len p xs) (length xs) l in record { within = omega arith; place = is }
+    go false l e = absurd (let z : Some i ≡ None = e in cc)
 
-abbrev flat : List Pending → List ℕ
-flat ps = flat_map waiting_bytes ps
+no_place : {A : Type 0} (p : A → Bool) (xs : List A) → length xs ≤ position_or_len p xs → find p xs ≡ None
+no_place p [] l = refl
+no_place {A} p (x ∷ xs) l = by (p x) l (λ m. no_place p xs m)
+  where
+    by : (b : Bool) → length (x ∷ xs) ≤ cond (not b) (1 + position_or_len p xs) 0 → (length xs ≤ position_or_len p xs → find p xs ≡ None) → cond b (Some x) (find p xs) ≡ None
+    by true l rest = absurd (omega arith)
+    by false l rest = rest (omega arith)
 
-flat_push : (ps : List Pending) (p : Pending) (rest : List ℕ) → flat (ps ++ p ∷ []) ++ rest ≡ flat ps ++ (waiting_bytes p ++ rest)
-flat_push [] p rest = ap (λ l. l ++ rest) (append-nil (waiting_bytes p))
-flat_push (q ∷ ps) p rest = append_assoc (waiting_bytes q) (flat (ps ++ p ∷ [])) rest ∙ ap (λ l. waiting_bytes q ++ l) (flat_push ps p rest) ∙ sym (append_assoc (waiting_bytes q) (flat ps) (waiting_bytes p ++ rest))
+pub none_stands : {A : Type 0} (p : A → Bool) (xs : List A) → None ≡ position p xs → find p xs ≡ None
+none_stands {A} p xs e = no_place p xs (past (nat_lt (position_or_len p xs) (length xs)) refl e)
+  where
+    past : (b : Bool) → nat_lt (position_or_len p xs) (length xs) ≡ b → None ≡ cond b (Some (position_or_len p xs)) None → length xs ≤ position_or_len p xs
+    past true l e = absurd (let z : None ≡ Some (position_or_len p xs) = e in cc)
+    past false l e = grind (arith, nat_tests)
 
-same_flat : (bounds : Bounds) (x y : ℕ) (ps qs : List Pending) (r s : List ℕ) → AreBounds bounds → AreWaiting bounds x ps → AreWaiting bounds y qs → length ps ≡ length qs → flat ps ++ r ≡ flat qs ++ s → Same ps qs r s
-same_flat bounds x y [] [] r s wide h k len e = record { one = refl; rest = e }
-same_flat bounds x y [] (q ∷ qs) r s wide h k len e = absurd (omega arith)
-same_flat bounds x y (p ∷ ps) [] r s wide h k len e = absurd (omega arith)
-same_flat bounds x y (p ∷ ps) (q ∷ qs) r s wide h k len e =
-    let first = same_waiting bounds x y p q (flat ps ++ r) (flat qs ++ s) wide h.0 k.0 (sym (append_assoc (waiting_bytes p) (flat ps) r) ∙ e ∙ append_assoc (waiting_bytes q) (flat qs) s) in
-    let shorter : length ps ≡ length qs = omega arith in
-    let more = same_flat bounds p.position q.position ps qs r s wide h.1 k.1 shorter first.rest in
-    record { one = ap₂ (λ p ps. p ∷ ps) first.one more.one; rest = more.rest }
+first_found : {A : Type 0} (p : A → Bool) (xs : List A) (x : A) → position_or_len p xs < length xs → x ≡ get_or xs (position_or_len p xs) x → find p xs ≡ Some x
+first_found p [] x l e = absurd (omega arith)
+first_found {A} p (y ∷ ys) x l e = by (p y) l e (λ m f. first_found p ys x m f)
+  where
+    one_more : (n : ℕ) → 1 + n ≡ suc n
+    one_more n = omega arith
 
--- bytes begin with one list of changes that wait at most
-pub same_pending : (bounds : Bounds) (ps qs : List Pending) (r s : List ℕ) → AreBounds bounds → IsPendingWithin bounds ps → IsPendingWithin bounds qs → pending_bytes ps ++ r ≡ pending_bytes qs ++ s → Same ps qs r s
-same_pending bounds ps qs r s wide h k e =
-    let count = same_number four (length ps) (length qs) (flat ps ++ r) (flat qs ++ s) h.few k.few
-    (sym (append_assoc (to_be_bytes w32 (length ps)) (flat ps) r) ∙ e ∙ append_assoc (to_be_bytes w32 (length qs)) (flat qs) s) in
-    same_flat bounds 0 0 ps qs r s wide h.waiting k.waiting count.one count.rest
+    by : (b : Bool) → cond (not b) (1 + position_or_len p ys) 0 < length (y ∷ ys) → x ≡ get_or (y ∷ ys) (cond (not b) (1 + position_or_len p ys) 0) x
+        → (position_or_len p ys < length ys → x ≡ get_or ys (position_or_len p ys) x → find p ys ≡ Some x) → cond b (Some y) (find p ys) ≡ Some x
+    by true l e rest = ap (λ z. Some z) (sym e)
+    by false l e rest = rest (omega arith) (e ∙ ap (λ n. get_or (y ∷ ys) n x) (one_more (position_or_len p ys)))
 
--- each of them is one that waits
-pub each_waits : (bounds : Bounds) (before : ℕ) (ps : List Pending) (k : ℕ) (d : Pending) → AreWaiting bounds before ps → k < length ps → IsWaiting bounds 0 (get_or ps k d)
-each_waits bounds before [] k d h low = absurd (omega arith)
-each_waits bounds before (p ∷ ps) zero d h low =
-    let first = h.0 in
-    let later = first.later in
-    record { later = omega arith; within = first.within; least = first.least; most = first.most; key = first.key; what = first.what; cas = first.cas; unnumbered = first.unnumbered }
-each_waits bounds before (p ∷ ps) (suc k) d h low = each_waits bounds p.position ps k d h.1 (omega arith)
+-- what stands at the place is what is found
+pub found_at : {A : Type 0} (p : A → Bool) (xs : List A) (i : ℕ) (x : A) → Stands p xs i → x ≡ get_or xs i x → find p xs ≡ Some x
+found_at p xs i x h e = let is = h.place in first_found p xs x (let w = h.within in omega arith) (e ∙ ap (λ n. get_or xs n x) (sym is))
 
--- ---- they fit the layout
+-- ---- positions that rise
 
-all_leads : (bounds : Bounds) (before : ℕ) (next : Layout) (ps : List Pending) (rest : List ℕ) → AreBounds bounds → AreWaiting bounds before ps → Leads (all_waiting_layout bounds (length ps) before next) (flat ps ++ rest) next rest
-all_leads bounds before next [] rest wide h = record { breaks = λ left b. b; fits = λ f. f }
-all_leads bounds before next (p ∷ ps) rest wide h =
-    leads_on (all_waiting_layout bounds (length (p ∷ ps)) before next) (flat (p ∷ ps) ++ rest) (all_waiting_layout bounds (length ps) p.position next) (flat ps ++ rest) next rest
-    (waiting_leads bounds before (λ position. all_waiting_layout bounds (length ps) position next) (flat (p ∷ ps) ++ rest) p (flat ps ++ rest) wide (record { allowed = h.0; front = append_assoc (waiting_bytes p) (flat ps) rest }))
-    (all_leads bounds p.position next ps rest wide h.1)
+abbrev positions : List Pending → List ℕ
+positions ps = list_map (λ (p : Pending). p.position) ps
 
-pub pending_leads : (bounds : Bounds) (next : Layout) (bytes : List ℕ) (ps : List Pending) (rest : List ℕ) → AreBounds bounds → AllWaitingAt bounds bytes ps rest → Leads (pending_layout bounds next) bytes next rest
-pending_leads bounds next bytes ps rest wide at =
-    let few = at.allowed in
-    let short = few.few in
-    leads_on (pending_layout bounds next) bytes (all_waiting_layout bounds (length ps) 0 next) (flat ps ++ rest) next rest
-    (number_leads four 0 (2 ^ 32 - 1) (λ count. all_waiting_layout bounds count 0 next) bytes (length ps) (flat ps ++ rest)
-    (record { front = at.front ∙ append_assoc (to_be_bytes w32 (length ps)) (flat ps) rest; above = omega arith; below = omega arith; small = short }))
-    (all_leads bounds 0 next ps rest wide few.waiting)
+all_above : (a b : ℕ) (xs : List ℕ) → a < b → list_all (nat_lt b) xs ≡ true → list_all (nat_lt a) xs ≡ true
+all_above a b [] l h = refl
+all_above a b (x ∷ xs) l h =
+    let parts = and_parts (nat_lt b x) (list_all (nat_lt b) xs) h in
+    let above = ltb-true b x parts.0 in
+    and_from (nat_lt a x) (list_all (nat_lt a) xs) (lt-ltb a x (omega arith)) (all_above a b xs l parts.1)
 
--- ---- reading
+-- numbers that rise behind one are above it
+rise_above : (a : ℕ) (xs : List ℕ) → are_rising (a ∷ xs) ≡ true → list_all (nat_lt a) xs ≡ true
+rise_above a [] h = refl
+rise_above a (x ∷ xs) h =
+    let parts = and_parts (nat_lt a x) (are_rising (x ∷ xs)) h in
+    and_from (nat_lt a x) (list_all (nat_lt a) xs) parts.0 (all_above a x xs (ltb-true a x parts.0) (rise_above x xs parts.1))
 
--- some of them were read behind their count, as far as to what is left
-pub record PendingRead (bounds : Bounds) (bytes : List ℕ) (count : ℕ) (ps : List Pending) (before : ℕ) (left : List ℕ) : Type 0 where
-  pub todo : ℕ
-  pub parts : length ps + todo ≡ count
-  pub few : count < 2 ^ 32
-  pub within : before ≤ GREATEST_POSITION
-  pub follows : (more : List Pending) → AreWaiting bounds before more → AreWaiting bounds 0 (ps ++ more)
-  pub front : bytes ≡ to_be_bytes w32 count ++ (flat ps ++ left)
-  pub leads : (next : Layout) → Leads (pending_layout bounds next) bytes (all_waiting_layout bounds todo before next) left
+rise_rest : (a : ℕ) (xs : List ℕ) → are_rising (a ∷ xs) ≡ true → are_rising xs ≡ true
+rise_rest a [] h = refl
+rise_rest a (x ∷ xs) h = (and_parts (nat_lt a x) (are_rising (x ∷ xs)) h).1
 
-pub pending_begin : (bounds : Bounds) (bytes : List ℕ) (count : ℕ) (left : List ℕ) → NumberAt four 0 (2 ^ 32 - 1) bytes count left → PendingRead bounds bytes count [] 0 left
-pending_begin bounds bytes count left at = record {
-  todo = count;
-  parts = omega arith;
-  few = at.small;
-  within = omega arith;
-  follows = λ more h. h;
-  front = at.front;
-  leads = λ next. number_leads four 0 (2 ^ 32 - 1) (λ count. all_waiting_layout bounds count 0 next) bytes count left at;
-}
+rise_cons : (a : ℕ) (xs : List ℕ) → list_all (nat_lt a) xs ≡ true → are_rising xs ≡ true → are_rising (a ∷ xs) ≡ true
+rise_cons a [] h k = refl
+rise_cons a (x ∷ xs) h k = and_from (nat_lt a x) (are_rising (x ∷ xs)) (and_parts (nat_lt a x) (list_all (nat_lt a) xs) h).0 k
 
--- where some are left to be read, the next is
-record NextLeads (bounds : Bounds) (bytes : List ℕ) (todo before : ℕ) (left : List ℕ) : Type 0 where
-  fewer : ℕ
-  is : todo ≡ suc fewer
-  leads : (next : Layout) → Leads (pending_layout bounds next) bytes (waiting_layout bounds before (λ position. all_waiting_layout bounds fewer position next)) left
+above_kept : (a : ℕ) (p : Pending → Bool) (ps : List Pending) → list_all (nat_lt a) (positions ps) ≡ true → list_all (nat_lt a) (positions (filter p ps)) ≡ true
+above_kept a p [] h = refl
+above_kept a p (x ∷ xs) h = by (p x) (above_kept a p xs (and_parts (nat_lt a x.position) (list_all (nat_lt a) (positions xs)) h).1)
+  where
+    by : (b : Bool) → list_all (nat_lt a) (positions (filter p xs)) ≡ true → list_all (nat_lt a) (positions (cond b (x ∷ filter p xs) (filter p xs))) ≡ true
+    by true rest = and_from (nat_lt a x.position) _ (and_parts (nat_lt a x.position) (list_all (nat_lt a) (positions xs)) h).0 rest
+    by false rest = rest
 
-next_leads : (bounds : Bounds) (bytes : List ℕ) (todo before : ℕ) (left : List ℕ) → 1 ≤ todo → ((next : Layout) → Leads (pending_layout bounds next) bytes (all_waiting_layout bounds todo before next) left) → NextLeads bounds bytes todo before left
-next_leads bounds bytes zero before left some leads = absurd (omega arith)
-next_leads bounds bytes (suc fewer) before left some leads = record { fewer = fewer; is = refl; leads = leads }
+pub rise_kept : (p : Pending → Bool) (ps : List Pending) → positions_rise ps ≡ true → positions_rise (filter p ps) ≡ true
+rise_kept p [] h = refl
+rise_kept p (x ∷ xs) h = by (p x) (rise_kept p xs (rise_rest x.position (positions xs) h))
+  where
+    by : (b : Bool) → positions_rise (filter p xs) ≡ true → positions_rise (cond b (x ∷ filter p xs) (filter p xs)) ≡ true
+    by true rest = rise_cons x.position (positions (filter p xs)) (above_kept x.position p xs (rise_above x.position (positions xs) h)) rest
+    by false rest = rest
 
-read_next : (bounds : Bounds) (bytes : List ℕ) (count : ℕ) (ps : List Pending) (before : ℕ) (left : List ℕ) → (so : PendingRead bounds bytes count ps before left) → length ps < count → NextLeads bounds bytes so.todo before left
-read_next bounds bytes count ps before left so less = let parts = so.parts in next_leads bounds bytes so.todo before left (omega arith) so.leads
+above_push : (a : ℕ) (ps : List Pending) (change : Pending) → a < change.position → list_all (nat_lt a) (positions ps) ≡ true → list_all (nat_lt a) (positions (ps ++ change ∷ [])) ≡ true
+above_push a [] change l h = and_from (nat_lt a change.position) true (lt-ltb a change.position l) refl
+above_push a (x ∷ xs) change l h =
+    let parts = and_parts (nat_lt a x.position) (list_all (nat_lt a) (positions xs)) h in
+    and_from (nat_lt a x.position) _ parts.0 (above_push a xs change l parts.1)
 
-pub pending_step : (bounds : Bounds) (bytes : List ℕ) (count : ℕ) (ps : List Pending) (before : ℕ) (left : List ℕ) (p : Pending) (rest : List ℕ) → AreBounds bounds → PendingRead bounds bytes count ps before left → length ps < count → WaitingAt bounds before left p rest
-    → PendingRead bounds bytes count (ps ++ p ∷ []) p.position rest
-pending_step bounds bytes count ps before left p rest wide so less at =
-    let n = read_next bounds bytes count ps before left so less in
-    let parts = so.parts in
-    let is = n.is in
-    let h = at.allowed in
-    let within = h.within in
-    let last = wide.last in
-    record {
-      todo = n.fewer;
-      parts = omega (arith, length-append ps (p ∷ []));
-      few = so.few;
-      within = omega arith;
-      follows = λ more k. subst (AreWaiting bounds 0) (sym (append_assoc ps (p ∷ []) more)) (so.follows (p ∷ more) (h, k));
-      front = so.front ∙ ap (λ l. to_be_bytes w32 count ++ l) (ap (λ l. flat ps ++ l) at.front ∙ sym (flat_push ps p rest));
-      leads = λ next. leads_on (pending_layout bounds next) bytes (waiting_layout bounds before (λ position. all_waiting_layout bounds n.fewer position next)) left (all_waiting_layout bounds n.fewer p.position next) rest
-          (n.leads next) (waiting_leads bounds before (λ position. all_waiting_layout bounds n.fewer position next) left p rest wide at);
-    }
+pub rise_push : (ps : List Pending) (change : Pending) → list_all (λ (p : Pending). nat_lt p.position change.position) ps ≡ true → positions_rise ps ≡ true → positions_rise (ps ++ change ∷ []) ≡ true
+rise_push [] change behind h = refl
+rise_push (x ∷ xs) change behind h =
+    let parts = and_parts (nat_lt x.position change.position) (list_all (λ (p : Pending). nat_lt p.position change.position) xs) behind in
+    rise_cons x.position (positions (xs ++ change ∷ []))
+    (above_push x.position xs change (ltb-true x.position change.position parts.0) (rise_above x.position (positions xs) h))
+    (rise_push xs change parts.1 (rise_rest x.position (positions xs) h))
 
-pub pending_broken : (bounds : Bounds) (bytes : List ℕ) (count : ℕ) (ps : List Pending) (before : ℕ) (left : List ℕ) (fault : FieldFault) → PendingRead bounds bytes count ps before left → length ps < count
-    → ((next : ℕ → Layout) → IsBroken (waiting_layout bounds before next) left fault) → (next : Layout) → IsBroken (pending_layout bounds next) bytes fault
-pending_broken bounds bytes count ps before left fault so less broken next =
-    let n = read_next bounds bytes count ps before left so less in
-    broken_behind (pending_layout bounds next) bytes (waiting_layout bounds before (λ position. all_waiting_layout bounds n.fewer position next)) left fault (n.leads next)
-    (broken (λ position. all_waiting_layout bounds n.fewer position next))
+-- ---- one change less
 
-pub pending_all : (bounds : Bounds) (bytes : List ℕ) (count : ℕ) (ps : List Pending) (before : ℕ) (left : List ℕ) → PendingRead bounds bytes count ps before left → length ps ≡ count → AllWaitingAt bounds bytes ps left
-pending_all bounds bytes count ps before left so all =
-    let few = so.few in
-    record {
-      allowed = record { waiting = subst (AreWaiting bounds 0) (append-nil ps) (so.follows [] tt); few = omega arith };
-      front = so.front ∙ sym (append_assoc (to_be_bytes w32 count) (flat ps) left) ∙ ap (λ n. (to_be_bytes w32 n ++ flat ps) ++ left) (sym all);
-    }
+-- where none was prepared at a position, all are left
+pub all_left : (of : ℕ) (ps : List Pending) → prepare_at ps of ≡ None → other_than of ps ≡ ps
+all_left of [] e = refl
+all_left of (p ∷ ps) e = by (nat_eq p.position of) e (λ f. all_left of ps f)
+  where
+    by : (b : Bool) → cond b (Some p) (prepare_at ps of) ≡ None → (prepare_at ps of ≡ None → other_than of ps ≡ ps) → cond (not b) (p ∷ other_than of ps) (other_than of ps) ≡ p ∷ ps
+    by true e rest = absurd (let z : Some p ≡ None = e in cc)
+    by false e rest = ap (λ l. p ∷ l) (rest e)
 
--- ---- from the front of bytes
+none_equal : (of : ℕ) (ps : List Pending) → list_all (nat_lt of) (positions ps) ≡ true → other_than of ps ≡ ps
+none_equal of [] h = refl
+none_equal of (p ∷ ps) h =
+    let parts = and_parts (nat_lt of p.position) (list_all (nat_lt of) (positions ps)) h in
+    ap (λ b. cond (not b) (p ∷ other_than of ps) (other_than of ps)) (differs p.position of (ltb-true of p.position parts.0)) ∙ ap (λ l. p ∷ l) (none_equal of ps parts.1)
+  where
+    differs : (a b : ℕ) → b < a → nat_eq a b ≡ false
+    differs a b l = grind (arith, nat_tests)
 
-pub widest_bounds : AreBounds widest
-widest_bounds = record { last = omega arith; cas = omega arith }
+removed_first : (of : ℕ) (ps : List Pending) → positions_rise ps ≡ true → position_or_len (at_position of) ps < length ps → remove ps (position_or_len (at_position of) ps) ≡ other_than of ps
+removed_first of [] h l = absurd (omega arith)
+removed_first of (p ∷ ps) h l = by (nat_eq p.position of) refl l (λ m. removed_first of ps (rise_rest p.position (positions ps) h) m)
+  where
+    one_more : (n : ℕ) → 1 + n ≡ suc n
+    one_more n = omega arith
 
--- whatever follows fits a run of as many bytes
-anything : (rest : List ℕ) → Fits (run (length rest) as_value end) rest
-anything rest = (rest, [], record { front = sym (append-nil rest); whole = refl; spells = tt }, refl)
+    by : (b : Bool) → nat_eq p.position of ≡ b → cond (not b) (1 + position_or_len (at_position of) ps) 0 < length (p ∷ ps)
+        → (position_or_len (at_position of) ps < length ps → remove ps (position_or_len (at_position of) ps) ≡ other_than of ps)
+        → remove (p ∷ ps) (cond (not b) (1 + position_or_len (at_position of) ps) 0) ≡ cond (not b) (p ∷ other_than of ps) (other_than of ps)
+    by true e l rest = sym (none_equal of ps (subst (λ n. list_all (nat_lt n) (positions ps) ≡ true) (eqb-true p.position of e) (rise_above p.position (positions ps) h)))
+    by false e l rest = ap (λ n. remove (p ∷ ps) n) (one_more (position_or_len (at_position of) ps)) ∙ ap (λ l. p ∷ l) (rest (omega arith))
 
-pub pending_none : (bytes : List ℕ) (left : ℕ) → ((next : Layout) → Breaks (pending_layout widest next) bytes left) → (ps : List Pending) (rest : List ℕ) → IsAllowedPending ps → bytes ≡ pending_bytes ps ++ rest → ⊥
-pending_none bytes left b ps rest h e =
-    no_fit (pending_layout widest (run (length rest) as_value end)) bytes left (b (run (length rest) as_value end))
-    ((pending_leads widest (run (length rest) as_value end) bytes ps rest widest_bounds (record { allowed = h; front = e })).fits (anything rest))
+-- what is left when the change at the place is removed
+pub removed_at : (of : ℕ) (ps : List Pending) (i : ℕ) → positions_rise ps ≡ true → Stands (at_position of) ps i → remove ps i ≡ other_than of ps
+removed_at of ps i h s = ap (remove ps) (sym s.place) ∙ removed_first of ps h (let w = s.within in let is = s.place in omega arith)
 
-pub pending_breaks_at : (bytes : List ℕ) (left : ℕ) → ((next : Layout) → Breaks (pending_layout widest next) bytes left) → PendingBreaksAt bytes (length bytes - left)
-pending_breaks_at bytes left b = let low = left_within (pending_layout widest end) bytes left (b end) in record { left = left; parts = omega arith; breaks = b }
+-- ---- what changes count
 
-pub pending_found : (bytes : List ℕ) (ps : List Pending) (rest : List ℕ) → AllWaitingAt widest bytes ps rest → PendingAt bytes ps (length bytes - length rest)
-pending_found bytes ps rest at =
-    let size : length bytes - length rest ≡ length (pending_bytes ps) = omega (arith, ap length at.front, length-append (pending_bytes ps) rest) in
-    record {
-      allowed = at.allowed;
-      front = at.front ∙ ap (λ l. pending_bytes ps ++ l) (sym (ap (drop (length bytes - length rest)) at.front ∙ drop_at (pending_bytes ps) rest (length bytes - length rest) (sym size)));
-      len = size;
-    }
+waiting_by : (ps : List Pending) → waiting_size ps ≡ sum_by pending_weight ps
+waiting_by ps = sum-map pending_weight ps
 
-pub pending_only : (bytes : List ℕ) (ps : List Pending) (rest : List ℕ) (qs : List Pending) (more : List ℕ) → AllWaitingAt widest bytes ps rest → IsAllowedPending qs → bytes ≡ pending_bytes qs ++ more
-    → (ps ≡ qs) × (length bytes - length rest ≡ length (pending_bytes qs))
-pending_only bytes ps rest qs more at h e =
-    let same = same_pending widest ps qs rest more widest_bounds at.allowed h (sym at.front ∙ e) in
-    let size : length bytes - length rest ≡ length (pending_bytes ps) = omega (arith, ap length at.front, length-append (pending_bytes ps) rest) in
-    (same.one, size ∙ ap (λ l. length (pending_bytes l)) same.one)
-
-pub pending_one_break : (bytes : List ℕ) (first second : ℕ) → PendingBreaksAt bytes first → PendingBreaksAt bytes second → first ≡ second
-pending_one_break bytes first second a b =
-    let same = one_place (pending_layout widest end) bytes a.left b.left (a.breaks end) (b.breaks end) in
-    let p = a.parts in
-    let q = b.parts in
+pub removed_size : (ps : List Pending) (i : ℕ) (d : Pending) → i < length ps → waiting_size (remove ps i) + pending_weight (get_or ps i d) ≡ waiting_size ps
+removed_size ps i d l =
+    let a = waiting_by (remove ps i) in
+    let b = waiting_by ps in
+    let c = sum_by-remove pending_weight ps i d l in
     omega arith
+
+-- a change that waits counts as a part
+pub found_size : (p : Pending → Bool) (ps : List Pending) → pending_size (find p ps) ≤ waiting_size ps
+found_size p [] = omega arith
+found_size p (x ∷ xs) = by (p x) (found_size p xs)
+  where
+    more : waiting_size (x ∷ xs) ≡ pending_weight x + waiting_size xs
+    more = sum_by-cons (λ n. n) (pending_weight x) (list_map pending_weight xs)
+
+    by : (b : Bool) → pending_size (find p xs) ≤ waiting_size xs → pending_size (cond b (Some x) (find p xs)) ≤ waiting_size (x ∷ xs)
+    by true rest = let m = more in omega arith
+    by false rest = let m = more in omega arith
+
+-- without the change of a position they count so much less
+pub others_size : (of : ℕ) (ps : List Pending) → positions_rise ps ≡ true → waiting_size (other_than of ps) + pending_size (prepare_at ps of) ≡ waiting_size ps
+others_size of [] h = refl
+others_size of (p ∷ ps) h = by (nat_eq p.position of) refl (others_size of ps (rise_rest p.position (positions ps) h))
+  where
+    more : (xs : List Pending) → waiting_size (p ∷ xs) ≡ pending_weight p + waiting_size xs
+    more xs = sum_by-cons (λ n. n) (pending_weight p) (list_map pending_weight xs)
+
+    by : (b : Bool) → nat_eq p.position of ≡ b → waiting_size (other_than of ps) + pending_size (prepare_at ps of) ≡ waiting_size ps
+        → waiting_size (cond (not b) (p ∷ other_than of ps) (other_than of ps)) + pending_size (cond b (Some p) (prepare_at ps of)) ≡ waiting_size (p ∷ ps)
+    by true e rest =
+        let none = none_equal of ps (subst (λ n. list_all (nat_lt n) (positions ps) ≡ true) (eqb-true p.position of e) (rise_above p.position (positions ps) h)) in
+        let a = ap waiting_size none in
+        let b = more ps in
+        omega arith
+    by false e rest = let a = more ps in let b = more (other_than of ps) in omega arith
+
+-- a change was found in a slice of them, and is removed there
+pub record Removes (of : ℕ) (ps : List Pending) (size i : ℕ) (change : Pending) : Type 0 where
+  pub found : prepare_at ps of ≡ Some change
+  pub left : remove ps i ≡ other_than of ps
+  pub rise : positions_rise (remove ps i) ≡ true
+  pub counts : waiting_size (remove ps i) + pending_weight change ≡ size
+
+pub removes : (of : ℕ) (ps slice : List Pending) (size i : ℕ) (change : Pending) → slice ≡ ps → Some i ≡ position (at_position of) slice → change ≡ get_or ps i change → size ≡ waiting_size ps → positions_rise ps ≡ true → Removes of ps size i change
+removes of ps slice size i change same at is counted rise =
+    let s = stands_at (at_position of) ps i (at ∙ ap (position (at_position of)) same) in
+    let left = removed_at of ps i rise s in
+    record {
+      found = found_at (at_position of) ps i change s is;
+      left = left;
+      rise = ap positions_rise left ∙ rise_kept (λ p. not (nat_eq p.position of)) ps rise;
+      counts = let less = removed_size ps i change s.within in let e = ap pending_weight is in omega arith;
+    }

@@ -9,3 +9,6 @@ pub mod Spelling
 pub mod Faults
 pub mod Reading
 pub mod Prepares
+pub mod Contents
+pub mod Held
+pub mod Adding

@@ -1,5 +1,6 @@
 use doc_model::{Doc, DocKey, What};
-use kv_edge::Bytes;
+use kv_edge::{Bytes, Copied, NoMemory};
+use std::alloc::Global;
 
 /// One entry of a log.
 #[derive(Debug, PartialEq, Eq, Drop)]
@@ -29,4 +30,17 @@ pub struct Pending {
     pub key: DocKey,
     /// What the key gets at the Commit.
     pub what: What,
+}
+
+impl Copied for Pending {
+    fn copy(&self, alloc: Global) -> Result<Pending, NoMemory> {
+        let key = self.key.copy(alloc)?;
+        let what = self.what.copy(alloc)?;
+        Ok(Pending {
+            position: self.position,
+            level: self.level,
+            key,
+            what,
+        })
+    }
 }

@@ -4,7 +4,7 @@ ghost use Rattle.std.specs.Prelude.{◌≡◌, ◌++◌, ℕ, List, length};
 ghost use Rattle.vb_log.specs.declared.entry.Entry.{Entry};
 ghost use Rattle.vb_log.specs.declared.entry.Entry.TheVariants as entries;
 ghost use Rattle.vb_log.specs.declared.entry.Pending.{Pending};
-ghost use Rattle.vb_log.specs.Content.{content_of};
+ghost use Rattle.vb_log.specs.Content.{Content, content_of};
 ghost use Rattle.vb_log.specs.Logs.{whole_logs, folds, IsFaithful};
 ghost use Rattle.vb_log.specs.Parts.{JoinsBack};
 ghost use Rattle.vb_log.specs.Laws.{WaitsAsPrepared, PrepareShowsNothing, PrepareWaits};
@@ -15,7 +15,8 @@ ghost use Rattle.vb_log.specs.Layout.{Fits};
 ghost use Rattle.vb_log.specs.Spelling.{IsAllowed, IsSpelled, spelling, entry_layout};
 ghost use Rattle.vb_log.specs.Sizes.{entry_length};
 ghost use Rattle.vb_log.specs.Prepares.{IsAllowedPending, pending_bytes};
-ghost use Rattle.vb_log.specs.Faults.{BreaksAt, PendingBreaksAt};
+ghost use Rattle.vb_log.specs.Contents.{HasBytes, IsContent, content_bytes, content_layout};
+ghost use Rattle.vb_log.specs.Faults.{BreaksAt, PendingBreaksAt, ContentBreaksAt};
 
 /// What of a log's content lies behind a position, joined to what the log comes to up to there, is
 /// what the whole log comes to.
@@ -105,4 +106,16 @@ pub fn pending_has_one_spelling()
         → PendingBreaksAt bytes first → PendingBreaksAt bytes second → first ≡ second }
     ensures none { (bytes : List ℕ) (place : ℕ) (ps : List Pending) (rest : List ℕ)
         → PendingBreaksAt bytes place → IsAllowedPending ps → bytes ≡ pending_bytes ps ++ rest → ⊥ }
+{}
+
+/// Bytes are those of one content at most, a content that has bytes has these alone, and they fit the
+/// layout. Where bytes break the layout, they do so at one place, and are no content's.
+pub fn content_has_one_spelling()
+    ensures one_content { (first second : Content) (bytes : List ℕ)
+        → IsContent first bytes → IsContent second bytes → first ≡ second }
+    ensures fits { (c : Content) → HasBytes c → Fits content_layout (content_bytes c) }
+    ensures place { (bytes : List ℕ) (first second : ℕ)
+        → ContentBreaksAt bytes first → ContentBreaksAt bytes second → first ≡ second }
+    ensures none { (bytes : List ℕ) (place : ℕ) (c : Content)
+        → ContentBreaksAt bytes place → IsContent c bytes → ⊥ }
 {}

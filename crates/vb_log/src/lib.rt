@@ -113,6 +113,44 @@
 //! 02 0000000000000009                       a deletion, CAS 9
 //! ```
 //!
+//! # The bytes of a content
+//!
+//! All bytes are the content's, and nothing follows.
+//!
+//! | Offset | Field | Bytes | Bounds |
+//! |---|---|---|---|
+//! | 0 | length | 8 | at most 2^42 - 1 |
+//! | 8 | greatest CAS | 8 | below 2^63 |
+//! | 16 | state of the manifest | as in `manifest_rules` | as there |
+//! | behind it | count of items | 4 | |
+//! | | items, one after another | | in rising order of their keys |
+//! | behind them | changes that wait | as above | as above, and within the length and the greatest CAS |
+//!
+//! | Field of an item | Bytes | Bounds |
+//! |---|---|---|
+//! | key | as in an entry | its collection is in the manifest, and it is above the one before |
+//! | sequence number | 8 | 1 to the length |
+//! | change | as in an entry | as in an entry, and no CAS above the greatest |
+//!
+//! A document has the sequence number of its item. Keys rise by collection, and then byte by byte.
+//!
+//! Worked example, a content of five entries, of which the third deleted `a` with the CAS 9 and the fifth
+//! prepares the deletion of `b`:
+//!
+//! ```text
+//! 0000000000000005                          length 5
+//! 0000000000000009                          greatest CAS 9
+//! 00000062 {"uid":"0", .. }                 the first manifest, 98 bytes
+//! 00000000 00000000                         no scope and no collection was ever dropped
+//! 00000001                                  one item
+//! 02 00 61                                  2 bytes: collection 0, `a`
+//! 0000000000000003                          made at 3
+//! 02 0000000000000009                       a deletion, CAS 9
+//! 00000001                                  one change that waits
+//! 0000000000000005 02 02 00 62              from 5, level 2, `b`
+//! 02 0000000000000008                       a deletion, CAS 8
+//! ```
+//!
 //! # Where bytes break the layout
 //!
 //! `Bad` has the offset of the first field that isn't there, passes its bounds or hasn't its form;
@@ -139,24 +177,36 @@
 //! | `00000001 0000040000000000` | `Bad(4)`: a position of 2^42 |
 #![tactic(auto)]
 
+mod adding;
 mod bounds;
+mod content;
 mod documents;
 mod entry;
 mod fields;
+mod items;
+mod judging;
 mod keys;
 mod kinds;
 mod laws;
 mod limits;
+mod ordering;
 mod pending;
 mod reading;
+mod sizes;
+mod spelt_content;
+mod spelt_items;
+mod undecided;
 mod writing;
 
+pub use adding::{AddFault, add};
+pub use content::{Content, empty, greatest_cas, item, length, manifest, prepares, size};
 pub use entry::{Entry, Pending};
+pub use judging::{allowed, size_after};
 pub use laws::{
     abort_only_ends_its_prepare, changes_count_once, commit_shows_what_was_prepared,
-    entry_has_one_spelling, folds_follow_their_entries, length_counts_entries,
-    manifest_takes_what_it_drops, one_broken_place, parts_join_back, pending_has_one_spelling,
-    prepare_shows_nothing, spelling_has_its_length,
+    content_has_one_spelling, entry_has_one_spelling, folds_follow_their_entries,
+    length_counts_entries, manifest_takes_what_it_drops, one_broken_place, parts_join_back,
+    pending_has_one_spelling, prepare_shows_nothing, spelling_has_its_length,
 };
 pub use limits::{
     CONTENT_LIMIT, GREATEST_CAS, GREATEST_LEVEL, GREATEST_POSITION, ITEM_OVERHEAD, LOG_LIMIT,

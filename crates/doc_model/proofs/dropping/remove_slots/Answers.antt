@@ -1,4 +1,4 @@
-use Rattle.std.proofs.Common.{take, ◌+◌, length, get_or, ◌∙◌, ap}
+use Rattle.std.proofs.Common.{take, ◌+◌, get_or}
 use Rattle.std.proofs.lemmas.List.Folds.{list_any_more}
 use Rattle.std.proofs.Common.{nat_eq}
 use Rattle.doc_model.proofs.Freed.{one_less, none_less}

@@ -1,5 +1,5 @@
 use Rattle.vb_log.specs.Prepares.{widest}
-use Rattle.vb_log.proofs.Prepared.{same_pending, widest_bounds, pending_one_break, pending_none}
+use Rattle.vb_log.proofs.PendingBytes.{same_pending, widest_bounds, pending_one_break, pending_none}
 use Rattle.vb_log.proofs.laws.pending_has_one_spelling.Goals as goal
 
 pub returns-clause-one_list : goal.returns-clause-one_list

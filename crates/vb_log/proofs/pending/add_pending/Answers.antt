@@ -1,6 +1,6 @@
 use Rattle.std.proofs.Common.{sym, subst}
 use Rattle.vb_log.specs.Prepares.{widest, IsWaiting}
-use Rattle.vb_log.proofs.Prepared.{each_waits}
+use Rattle.vb_log.proofs.PendingBytes.{each_waits}
 use Rattle.vb_log.proofs.pending.add_pending.Goals as goal
 
 pub add_waiting-requires : goal.add_waiting-requires

@@ -3,7 +3,7 @@ use Rattle.std.proofs.lemmas.List.{length-append}
 use Rattle.vb_log.specs.Faults.{IsBroken}
 use Rattle.vb_log.specs.Prepares.{pending_layout, all_waiting_layout}
 use Rattle.vb_log.proofs.Pieces.{handed}
-use Rattle.vb_log.proofs.Prepared.{PendingRead, pending_step, pending_broken, pending_all}
+use Rattle.vb_log.proofs.PendingBytes.{PendingRead, pending_step, pending_broken, pending_all}
 use Rattle.vb_log.proofs.pending.pending_at.Goals as goal
 
 pub returns-in_err-count-clause-broken : goal.returns-in_err-count-clause-broken

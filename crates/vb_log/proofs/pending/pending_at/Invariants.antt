@@ -1,5 +1,5 @@
 use Rattle.std.proofs.Common.{◌≡◌, length}
-use Rattle.vb_log.proofs.Prepared.{PendingRead}
+use Rattle.vb_log.proofs.PendingBytes.{PendingRead}
 use Rattle.vb_log.proofs.pending.pending_at.Given as goal
 
 abbrev pub invariant-loop : goal.invariant-loop

@@ -1,7 +1,7 @@
 use Rattle.vb_log.specs.Layout.{end}
 use Rattle.vb_log.specs.Prepares.{widest, pending_layout}
 use Rattle.vb_log.proofs.Layouts.{left_within}
-use Rattle.vb_log.proofs.Prepared.{pending_none, pending_breaks_at, pending_found, pending_only}
+use Rattle.vb_log.proofs.PendingBytes.{pending_none, pending_breaks_at, pending_found, pending_only}
 use Rattle.vb_log.proofs.pending.read_pending.Goals as goal
 
 pub overflow_sub-result-in-Err-Broken : goal.overflow_sub-result-in-Err-Broken

@@ -1,0 +1,34 @@
+use Rattle.std.proofs.Common.{◌+◌, ◌∙◌, ap, sym, take, arith}
+use Rattle.std.proofs.lemmas.List.{take_all}
+use Rattle.vb_log.specs.Held.{items_size}
+use Rattle.vb_log.proofs.Weighing.{of_some, none_taken, some_within, some_more}
+use Rattle.vb_log.proofs.items.Items.size_in.Goals as goal
+
+pub loop-collection-init : goal.loop-collection-init
+loop-collection-init c = sym (none_taken c.self.inside.by_key)
+
+pub overflow_add-total : goal.overflow_add-total
+overflow_add-total c =
+    let m = c.self.inside.by_key in
+    let ids = c.args.collections.now in
+    let i = c.loop-collection.collection-index in
+    let more = some_more m ids i c.requires c.loop-collection-test.true in
+    let part = some_within m (take (i + 1) ids) in
+    let so_far = c.loop-collection.invariant in
+    let size = c.self.invariant.0 in
+    omega (arith, c.weight_in-total.ensures)
+
+pub loop-collection-preserved : goal.loop-collection-preserved
+loop-collection-preserved c =
+    let m = c.self.inside.by_key in
+    let ids = c.args.collections.now in
+    let i = c.loop-collection.collection-index in
+    let more = some_more m ids i c.requires c.loop-collection-test.true in
+    let so_far = c.loop-collection.invariant in
+    omega (arith, c.weight_in-total.ensures)
+
+pub returns : goal.returns
+returns c =
+    c.loop-collection.invariant
+    ∙ ap (λ l. items_size (of_some l c.self.inside.by_key)) (take_all c.loop-collection.collection-index c.args.collections.now (omega arith))
+    ∙ ap (λ m. items_size (of_some c.args.collections.now m)) c.self.view_is
