@@ -18,11 +18,10 @@ use Rattle.doc_model.proofs.Entries.{is_equal, same_key, keys_total}
 use Rattle.manifest_rules.specs.Catalog.{Catalog}
 use Rattle.manifest_rules.specs.State.{is_kept, state_of}
 use Rattle.vb_log.specs.declared.bounds.Bounds.{Bounds}
-use Rattle.vb_log.specs.declared.spelt_content.Body.{Body}
 use Rattle.vb_log.specs.declared.entry.Pending.{Pending}
 use Rattle.vb_log.specs.declared.limits.TheConstants.{GREATEST_CAS, GREATEST_POSITION}
 use Rattle.vb_log.specs.Content.{Content}
-use Rattle.vb_log.specs.Contents.{CanBeSpelt, IsAllowedItem, bounds_of, HasBytes, IsContent, AreItems, AreItemsWithin, is_later, items_bytes, body_bytes, content_bytes, items_layout, body_layout, content_layout, PartsAt}
+use Rattle.vb_log.specs.Contents.{CanBeSpelt, IsAllowedItem, bounds_of, HasBytes, IsContent, AreItems, AreItemsWithin, is_later, items_bytes, body_bytes, content_bytes, items_layout, body_layout, content_layout}
 use Rattle.vb_log.specs.Faults.{ContentBreaksAt}
 use Rattle.vb_log.specs.Held.{StandAtKeys}
 use Rattle.vb_log.specs.Layout.{end, eight, number, Fits, Breaks}
@@ -63,7 +62,7 @@ no_some : {A : Type 0} (a : A) → None ≡ Some a → ⊥
 no_some a e = absurd (cc)
 
 -- a key below others has nothing among them
-none_above : {X : Type 0} (k : DocKey) (es : List (DocKey × X)) → T (below_all key_cmp k es) → find key_cmp k es ≡ None
+pub none_above : {X : Type 0} (k : DocKey) (es : List (DocKey × X)) → T (below_all key_cmp k es) → find key_cmp k es ≡ None
 none_above k [] h = refl
 none_above {X} k (e ∷ es) h =
     let is = less (key_cmp k e.0) (first (is_lt (key_cmp k e.0)) (below_all key_cmp k es) h) in
@@ -78,7 +77,7 @@ sorted_once [] h = tt
 sorted_once (e ∷ es) h = (none_above e.0 es (first (below_all key_cmp e.0 es) (is_sorted key_cmp es) h), sorted_once es (second (below_all key_cmp e.0 es) (is_sorted key_cmp es) h))
 
 -- what holds of what each key has holds of all values
-each_value : (P : Item → Type 0) (es : List (DocKey × Item)) → StandOnce es → ((q : DocKey) (v : Item) → find key_cmp q es ≡ Some v → P v) → AllByRecursion P (values_of es)
+pub each_value : (P : Item → Type 0) (es : List (DocKey × Item)) → StandOnce es → ((q : DocKey) (v : Item) → find key_cmp q es ≡ Some v → P v) → AllByRecursion P (values_of es)
 each_value P [] once h = tt
 each_value P (e ∷ es) once h = (
   h e.0 e.1 (ap (λ b. cond b (Some e.1) (find key_cmp e.0 es)) (map_itself e.0)),
@@ -93,7 +92,7 @@ each_value P (e ∷ es) once h = (
     later q v f false is = f
 
 -- the entries of a map whose items stand at their own keys
-own_entries : (m : map.FinMap key_cmp Item) → StandAtKeys m → map.entries m ≡ keyed (map.values m)
+pub own_entries : (m : map.FinMap key_cmp Item) → StandAtKeys m → map.entries m ≡ keyed (map.values m)
 own_entries m at = own (map.entries m) (sorted_once (map.entries m) (map.entries_sorted m)) (λ q v f. at q v (map.get-entries m q ∙ f))
 
 -- a key is before all of some items, where there is one
@@ -105,7 +104,7 @@ head_later : (before : Option DocKey) (i : Item) (items : List Item) → IsAhead
 head_later None i items h = refl
 head_later (Some key) i items h = holds (is_lt (key_cmp key i.key)) (first (is_lt (key_cmp key i.key)) (below_all key_cmp key (keyed items)) h)
 
-rising : (manifest : Catalog) (bounds : Bounds) (before : Option DocKey) (items : List Item) → T (is_sorted key_cmp (keyed items)) → IsAhead before items → AllByRecursion (IsAllowedItem manifest bounds) items → AreItems manifest bounds before items
+pub rising : (manifest : Catalog) (bounds : Bounds) (before : Option DocKey) (items : List Item) → T (is_sorted key_cmp (keyed items)) → IsAhead before items → AllByRecursion (IsAllowedItem manifest bounds) items → AreItems manifest bounds before items
 rising manifest bounds before [] up ahead all = tt
 rising manifest bounds before (i ∷ items) up ahead all = (
   record { allowed = all.0; later = head_later before i items ahead },
@@ -189,12 +188,15 @@ one_content c d h k e =
     λ i. record { items = same i; prepares = prepares.one i; manifest = manifest.one i; greatest_cas = cas.one i; length = last.one i }
 
 pub one_spelled : (c d : Content) (bytes : List ℕ) → IsContent c bytes → IsContent d bytes → c ≡ d
-one_spelled c d bytes s t = one_content c d s.allowed t.allowed (sym s.spelled ∙ t.spelled)
+one_spelled c d bytes s t =
+    let v = s.whole in
+    let w = t.whole in
+    one_content c d v.parts w.parts (sym s.spelled ∙ t.spelled)
 
 -- ---- bytes that break the layout are no content's
 
 pub broken_none : (bytes : List ℕ) (left : ℕ) → Breaks content_layout bytes left → (c : Content) → IsContent c bytes → ⊥
-broken_none bytes left b c s = no_fit content_layout bytes left b (subst (λ l. Fits content_layout l) (sym s.spelled) (content_fits c s.allowed))
+broken_none bytes left b c s = let w = s.whole in no_fit content_layout bytes left b (subst (λ l. Fits content_layout l) (sym s.spelled) (content_fits c w.parts))
 
 pub broken_at : (bytes : List ℕ) (left : ℕ) → Breaks content_layout bytes left → ContentBreaksAt bytes (length bytes - left)
 broken_at bytes left b = let low = left_within content_layout bytes left b in record { left = left; parts = omega arith; breaks = b }
@@ -223,7 +225,7 @@ below_rising manifest bounds before (i ∷ items) h =
         (tested (is_lt (key_cmp x e.0)) (ap is_lt (keys_total.trans x y e.0 p (less (key_cmp y e.0) (first (is_lt (key_cmp y e.0)) (below_all key_cmp y es) h)))))
         (lower x y es p (second (is_lt (key_cmp y e.0)) (below_all key_cmp y es) h))
 
-sorted_rising : (manifest : Catalog) (bounds : Bounds) (before : Option DocKey) (items : List Item) → AreItems manifest bounds before items → T (is_sorted key_cmp (keyed items))
+pub sorted_rising : (manifest : Catalog) (bounds : Bounds) (before : Option DocKey) (items : List Item) → AreItems manifest bounds before items → T (is_sorted key_cmp (keyed items))
 sorted_rising manifest bounds before [] h = tt
 sorted_rising manifest bounds before (i ∷ items) h =
     both (below_all key_cmp i.key (keyed items)) (is_sorted key_cmp (keyed items)) (below_rising manifest bounds i.key items h.1) (sorted_rising manifest bounds (Some i.key) items h.1)
@@ -243,32 +245,6 @@ rising_allowed manifest bounds m items h same key item is =
     let there = found_there key item items (sym (same key) ∙ is) in
     let at = there.0 in
     (subst (IsAllowedItem manifest bounds) at.2 (each_item manifest bounds None items at.0 item h.rising at.1), there.1)
-
--- parts that were read are those of a content that has them
-pub parts_content : (bytes : List ℕ) (bounds : Bounds) (body : Body) (c : Content) → PartsAt bytes bounds body → bounds ≡ bounds_of c → body.manifest ≡ c.manifest → body.prepares ≡ c.prepares
-    → ((q : DocKey) → map.get c.items q ≡ find key_cmp q (keyed body.items)) → IsContent c bytes
-parts_content bytes bounds body c at is same also has =
-    let parts = at.parts in
-    let last = at.last in
-    let cas = at.cas in
-    let length_is : bounds.last ≡ c.length = ap (λ (b : Bounds). b.last) is in
-    let cas_is : bounds.cas ≡ c.greatest_cas = ap (λ (b : Bounds). b.cas) is in
-    let within : AreItemsWithin c.manifest (bounds_of c) body.items = subst (λ m. AreItemsWithin m (bounds_of c) body.items) same (subst (λ b. AreItemsWithin body.manifest b body.items) is parts.items) in
-    let values = rising_values c.manifest (bounds_of c) c.items body.items within has in
-    let few = within.few in
-    record {
-      allowed = record {
-        short = omega arith;
-        cas = omega arith;
-        kept = subst (λ m. is_kept m ≡ true) same parts.kept;
-        own = λ q v f. (rising_allowed c.manifest (bounds_of c) c.items body.items within has q v f).1;
-        items = λ q v f. (rising_allowed c.manifest (bounds_of c) c.items body.items within has q v f).0;
-        few = omega (arith, length-map (map.entries c.items) (λ e. e.1), map.len-entries c.items, ap length values);
-        prepares = subst (λ b. IsPendingWithin b c.prepares) is (subst (λ ps. IsPendingWithin bounds ps) also parts.prepares);
-      };
-      spelled = at.whole
-          ∙ (λ i. to_be_bytes w64 (length_is i) ++ (to_be_bytes w64 (cas_is i) ++ body_bytes (same i) (sym values i) (also i)));
-    }
 
 -- ---- writing
 

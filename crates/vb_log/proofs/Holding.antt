@@ -1,5 +1,5 @@
 -- A content stays one that may be held, entry by entry.
-use Rattle.std.specs.Prelude.{◌≡◌, ℕ, ◌+◌, ◌<◌, ◌≤◌, ◌^◌, nat_eq, nat_lt, nat_le, is_some, is_none, filter, find, Bool, true, false, cond, not, ◌&&◌, List, [], ◌∷◌, ◌++◌, length, Option, Some, None, Result, Ok, Err, IsTrue, refl}
+use Rattle.std.specs.Prelude.{◌≡◌, ℕ, ◌+◌, ◌≤◌, nat_eq, nat_lt, nat_le, is_some, is_none, filter, Bool, true, false, cond, not, List, [], ◌∷◌, ◌++◌, length, Option, Some, None, Result, Ok, Err, IsTrue, refl}
 use Rattle.std.specs.List.{list_all}
 use Rattle.std.specs.Ordering.{eq_by_cmp}
 use Rattle.std.specs.Option.{option_copied}
@@ -23,14 +23,13 @@ use Rattle.manifest_rules.specs.Applying.{text_step, Drops}
 use Rattle.manifest_rules.specs.Ids.{SameIds}
 use Rattle.manifest_rules.specs.State.{is_kept}
 use Rattle.manifest_rules.proofs.Runs.{first_kept}
-use Rattle.vb_log.specs.declared.entry.Entry.{Entry}
 use Rattle.vb_log.specs.declared.entry.Entry.TheVariants as entries
 use Rattle.vb_log.specs.declared.entry.Pending.{Pending}
 use Rattle.vb_log.specs.declared.limits.TheConstants.{CONTENT_LIMIT, SUM_LIMIT}
 use Rattle.vb_log.specs.Content.{Content, no_content, has_collection, prepare_at, prepare_of, item_made, with_item, other_than, committed, without, with_step, one_longer, with_entry, is_free}
 use Rattle.vb_log.specs.Sizes.{size_of, item_size, size, is_within}
 use Rattle.vb_log.specs.Held.{item_weight, items_size, pending_weight, pending_size, waiting_size, AreThere, positions_rise, positions_within, IsHeld}
-use Rattle.vb_log.specs.Adding.{HasRoom, with_change, with_waiting, mark, with_room, items_given, is_shown, items_with}
+use Rattle.vb_log.specs.Adding.{HasRoom, with_change, with_waiting, mark, with_room, items_given, items_with}
 use Rattle.vb_log.proofs.Weighing.{size_none, size_insert, of_some, some_taken}
 use Rattle.vb_log.proofs.Totals.{numbered_bytes}
 use Rattle.vb_log.proofs.Prepared.{all_left, others_size}

@@ -81,22 +81,22 @@ passing_broken test next (n ∷ rest) (field_fault.Broken left) b = elim (b (run
 -- ---- one item
 
 -- what a key has, without a sequence number of its own
-abbrev bare : What → What
+abbrev pub bare : What → What
 bare what = numbered 0 what
 
-same_bytes : (n : ℕ) (what : What) → what_bytes (numbered n what) ≡ what_bytes what
+pub same_bytes : (n : ℕ) (what : What) → what_bytes (numbered n what) ≡ what_bytes what
 same_bytes n (whats.Put doc) = refl
 same_bytes n (whats.Remove cas) = refl
 
-bare_allowed : (n : ℕ) (what : What) → IsAllowedWhat what → IsAllowedWhat (numbered n what)
+pub bare_allowed : (n : ℕ) (what : What) → IsAllowedWhat what → IsAllowedWhat (numbered n what)
 bare_allowed n (whats.Put doc) h = record { cas = h.cas; flags = h.flags; expiry = h.expiry; attributes = h.attributes; attributes_short = h.attributes_short; value_short = h.value_short }
 bare_allowed n (whats.Remove cas) h = h
 
-bare_unnumbered : (what : What) → IsUnnumbered (bare what)
+pub bare_unnumbered : (what : What) → IsUnnumbered (bare what)
 bare_unnumbered (whats.Put doc) = refl
 bare_unnumbered (whats.Remove cas) = tt
 
-has_number : (n : ℕ) (what : What) → IsNumbered n (numbered n what)
+pub has_number : (n : ℕ) (what : What) → IsNumbered n (numbered n what)
 has_number n (whats.Put doc) = refl
 has_number n (whats.Remove cas) = tt
 
@@ -105,7 +105,7 @@ same_cas n (whats.Put doc) = refl
 same_cas n (whats.Remove cas) = refl
 
 -- a change is what it is without its number, with it
-again : (n : ℕ) (what : What) → IsNumbered n what → numbered n (bare what) ≡ what
+pub again : (n : ℕ) (what : What) → IsNumbered n what → numbered n (bare what) ≡ what
 again n (whats.Put doc) h = λ i. whats.Put (record doc { seqno = sym h i })
 again n (whats.Remove cas) h = refl
 
@@ -141,13 +141,13 @@ item_found manifest bounds before bytes key more seqno left what rest k passes n
     regroup u v w r = simp append_assoc
 
 -- its fields, one behind the other
-parted : (i : Item) (r : List ℕ) → item_bytes i ++ r ≡ key_bytes i.key ++ (to_be_bytes w64 i.seqno ++ (what_bytes i.what ++ r))
+pub parted : (i : Item) (r : List ℕ) → item_bytes i ++ r ≡ key_bytes i.key ++ (to_be_bytes w64 i.seqno ++ (what_bytes i.what ++ r))
 parted i r = regroup (key_bytes i.key) (to_be_bytes w64 i.seqno) (what_bytes i.what) r
   where
     regroup : (u v w r : List ℕ) → (u ++ (v ++ w)) ++ r ≡ u ++ (v ++ (w ++ r))
     regroup u v w r = simp append_assoc
 
-what_at_bare : (bounds : Bounds) (what : What) (rest : List ℕ) → IsAllowedWhat what → cas_of what ≤ bounds.cas → WhatAt bounds.cas (what_bytes what ++ rest) (bare what) rest
+pub what_at_bare : (bounds : Bounds) (what : What) (rest : List ℕ) → IsAllowedWhat what → cas_of what ≤ bounds.cas → WhatAt bounds.cas (what_bytes what ++ rest) (bare what) rest
 what_at_bare bounds what rest h low = record {
   allowed = bare_allowed 0 what h;
   within = subst (λ c. c ≤ bounds.cas) (sym (same_cas 0 what)) low;

@@ -15,3 +15,9 @@ pub mod Weighing
 pub mod ContentBytes
 pub mod Prepared
 pub mod Holding
+pub mod StoredBytes
+pub mod Together
+pub mod Distinct
+pub mod Leftover
+pub mod Wholes
+pub mod WholeBytes

@@ -1,16 +1,13 @@
 -- Lists of changes that wait: where one stands, what they count, and their positions.
-use Rattle.std.specs.Prelude.{◌≡◌, ℕ, ◌+◌, ◌<◌, ◌≤◌, nat_eq, nat_lt, nat_le, is_some, find, filter, position, map as list_map, sum, Bool, true, false, cond, not, ◌&&◌, ◌||◌, List, [], ◌∷◌, ◌++◌, length, take, drop, Option, Some, None, refl}
+use Rattle.std.specs.Prelude.{◌≡◌, ℕ, ◌+◌, ◌<◌, ◌≤◌, nat_eq, nat_lt, is_some, find, filter, position, map as list_map, Bool, true, false, cond, not, ◌||◌, List, [], ◌∷◌, ◌++◌, length, Some, None, refl}
 use Rattle.std.specs.List.{list_any, list_all, position_or_len, remove, sum_by}
-use Rattle.std.specs.Ordering.{eq_by_cmp}
-use Rattle.std.proofs.Common.{zero, suc, sym, ◌∙◌, ap, subst, get_or, arith}
+use Rattle.std.proofs.Common.{suc, sym, ◌∙◌, ap, subst, get_or, arith}
 use Rattle.std.proofs.lemmas.Bool.{and_parts, and_from, lt-ltb, ltb-true, eqb-true}
 use Rattle.std.proofs.lemmas.Bool.Decides.{nat_tests}
 use Rattle.std.proofs.lemmas.List.Sums.{sum_by-cons, sum-map, sum_by-remove}
-use Rattle.doc_model.specs.declared.key.DocKey.{DocKey}
-use Rattle.doc_model.specs.Keys.{key_cmp}
 use Rattle.manifest_rules.specs.State.{are_rising}
 use Rattle.vb_log.specs.declared.entry.Pending.{Pending}
-use Rattle.vb_log.specs.Content.{prepare_at, prepare_of, other_than}
+use Rattle.vb_log.specs.Content.{prepare_at, other_than}
 use Rattle.vb_log.specs.Held.{pending_weight, pending_size, waiting_size, positions_rise}
 
 -- ---- the first that passes

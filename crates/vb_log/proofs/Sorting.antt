@@ -63,10 +63,10 @@ are_own m items v at =
 -- ---- no key stands twice
 
 -- how often a key stands
-abbrev hits : DocKey → List Item → ℕ
+abbrev pub hits : DocKey → List Item → ℕ
 hits q items = sum_by (λ i. cond (eq_by_cmp key_cmp q i.key) 1 0) items
 
-hits_more : (q : DocKey) (i : Item) (items : List Item) → hits q (i ∷ items) ≡ cond (eq_by_cmp key_cmp q i.key) 1 0 + hits q items
+pub hits_more : (q : DocKey) (i : Item) (items : List Item) → hits q (i ∷ items) ≡ cond (eq_by_cmp key_cmp q i.key) 1 0 + hits q items
 hits_more q i items = sum_by-cons (λ i. cond (eq_by_cmp key_cmp q i.key) 1 0) i items
 
 no_hit : (q : DocKey) (items : List Item) → find key_cmp q (keyed items) ≡ None → hits q items ≡ 0
@@ -91,7 +91,7 @@ hit_once q (i ∷ items) once = go (eq_by_cmp key_cmp q i.key) refl (hit_once q 
         omega arith
 
 -- each key stands once at most
-abbrev AllOnce : List Item → Type 0
+abbrev pub AllOnce : List Item → Type 0
 AllOnce items = (q : DocKey) → hits q items ≤ 1
 
 -- behind an item its key doesn't stand again, and others once
@@ -181,7 +181,7 @@ there_found v (i ∷ items) (suc k) low is once = go (eq_by_cmp key_cmp v.key i.
         absurd (omega arith)
     go false same found = found
 
-same_found : (items sorted : List Item) (q : DocKey) → IsPermutation items sorted → AllOnce items → AllOnce sorted → find key_cmp q (keyed sorted) ≡ find key_cmp q (keyed items)
+pub same_found : (items sorted : List Item) (q : DocKey) → IsPermutation items sorted → AllOnce items → AllOnce sorted → find key_cmp q (keyed sorted) ≡ find key_cmp q (keyed items)
 same_found items sorted q moved once also = go (find key_cmp q (keyed items)) refl (find key_cmp q (keyed sorted)) refl
   where
     carried : (xs ys : List Item) (v : Item) → IsPermutation xs ys → AllOnce ys → find key_cmp q (keyed xs) ≡ Some v → find key_cmp q (keyed ys) ≡ Some v
@@ -197,7 +197,7 @@ same_found items sorted q moved once also = go (find key_cmp q (keyed items)) re
 
 -- ---- the values of a map
 
-values_keyed : (items : List Item) → list_map (λ (e : DocKey × Item). e.1) (keyed items) ≡ items
+pub values_keyed : (items : List Item) → list_map (λ (e : DocKey × Item). e.1) (keyed items) ≡ items
 values_keyed [] = refl
 values_keyed (i ∷ items) = ap (λ l. i ∷ l) (values_keyed items)
 

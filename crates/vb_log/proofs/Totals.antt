@@ -1,18 +1,16 @@
 -- What a content counts, entry by entry.
-use Rattle.std.specs.Prelude.{◌≡◌, ℕ, ◌+◌, sum, map as list_map, List, [], ◌∷◌, ◌++◌, length, Option, Some, None, refl}
+use Rattle.std.specs.Prelude.{◌≡◌, ℕ, ◌+◌, sum, map as list_map, List, [], ◌∷◌, ◌++◌, length, refl}
 use Rattle.std.specs.FinMap as map
 use Rattle.std.proofs.Common.{◌∙◌, ap, arith}
 use Rattle.std.proofs.lemmas.List.Sums.{sum_by_push}
 use Rattle.doc_model.specs.declared.key.DocKey.{DocKey}
 use Rattle.doc_model.specs.declared.document.What.{What}
 use Rattle.doc_model.specs.declared.document.What.TheVariants as whats
-use Rattle.doc_model.specs.declared.document.Item.{Item}
-use Rattle.doc_model.specs.Keys.{key_cmp}
 use Rattle.vb_log.specs.Content.{Content, numbered, item_made, with_item}
 use Rattle.vb_log.specs.declared.entry.Pending.{Pending}
 use Rattle.vb_log.specs.Laws.{MutationCounts, DeletionCounts, PrepareCounts}
 use Rattle.vb_log.specs.Sizes.{bytes_of, size_of, item_size, size}
-use Rattle.vb_log.specs.Held.{item_weight, items_size, pending_weight, waiting_size}
+use Rattle.vb_log.specs.Held.{pending_weight, waiting_size}
 use Rattle.vb_log.proofs.Weighing.{size_insert}
 
 pub numbered_bytes : (n : ℕ) (what : What) → bytes_of (numbered n what) ≡ bytes_of what

@@ -1,6 +1,6 @@
 -- What items count, as they come and go.
-use Rattle.std.specs.Prelude.{◌≡◌, ℕ, ◌+◌, ◌<◌, ◌≤◌, nat_eq, nat_lt, is_some, Bool, true, false, cond, not, ◌&&◌, ◌||◌, List, [], ◌∷◌, length, take, Option, Some, None, refl}
-use Rattle.std.specs.List.{list_any, list_all}
+use Rattle.std.specs.Prelude.{◌≡◌, ℕ, ◌+◌, ◌<◌, ◌≤◌, nat_eq, nat_lt, Bool, true, false, cond, not, ◌&&◌, ◌||◌, List, [], ◌∷◌, length, take, Option, Some, None, refl}
+use Rattle.std.specs.List.{list_any}
 use Rattle.std.specs.Ordering.{eq_by_cmp}
 use Rattle.std.specs.FinMap as map
 use Rattle.std.proofs.Common.{zero, suc, sym, ◌∙◌, ap, get_or, arith}
@@ -9,11 +9,11 @@ use Rattle.std.proofs.lemmas.Bool.Decides.{nat_tests}
 use Rattle.std.proofs.lemmas.List.Folds.{list_any_more}
 use Rattle.doc_model.specs.declared.key.DocKey.{DocKey}
 use Rattle.doc_model.specs.declared.document.Item.{Item}
-use Rattle.doc_model.specs.Keys.{key_cmp, is_in, is_among_ids}
+use Rattle.doc_model.specs.Keys.{key_cmp, is_in}
 use Rattle.doc_model.specs.Values.{weight_of, of_collection}
 use Rattle.doc_model.proofs.Entries.{exact_keys, keys_total, same_key}
-use Rattle.doc_model.proofs.Drops.{get_kept, same_kept}
-use Rattle.doc_model.proofs.Weights.{counted_of, weight_none, weight_insert, weight_remove, weight_at, weight_parts, weight_part}
+use Rattle.doc_model.proofs.Drops.{get_kept}
+use Rattle.doc_model.proofs.Weights.{counted_of, weight_none, weight_insert, weight_remove, weight_parts, weight_part}
 use Rattle.manifest_rules.specs.State.{are_rising}
 use Rattle.vb_log.specs.Sizes.{item_size}
 use Rattle.vb_log.specs.Held.{item_weight, items_size, StandAtKeys}

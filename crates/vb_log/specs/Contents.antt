@@ -1,8 +1,8 @@
 -- The bytes of a content.
-use Rattle.std.specs.Prelude.{◌≡◌, ℕ, zero, suc, ◌-◌, ◌≤◌, ◌<◌, ◌^◌, Bool, true, ◌&&◌, List, [], ◌∷◌, ◌++◌, length, slice_get, option_map, IsTrue, Option, Some, None}
-use Rattle.std.specs.List.{flat_map}
+use Rattle.std.specs.Prelude.{◌≡◌, ℕ, zero, suc, ◌-◌, ◌≤◌, ◌<◌, ◌^◌, nat_eq, Bool, true, ◌&&◌, map as list_map, List, [], ◌∷◌, ◌++◌, length, slice_get, option_map, IsTrue, Option, Some, None}
+use Rattle.std.specs.List.{flat_map, IsDistinct}
 use Rattle.std.specs.Int.{w32, w64, to_be_bytes}
-use Rattle.std.specs.Ordering.{is_lt}
+use Rattle.std.specs.Ordering.{is_lt, eq_by_cmp}
 use Rattle.std.specs.FinMap as map
 use Rattle.doc_model.specs.declared.key.DocKey.{DocKey}
 use Rattle.doc_model.specs.declared.document.Item.{Item}
@@ -20,6 +20,7 @@ use Rattle.vb_log.specs.Held.{StandAtKeys}
 use Rattle.vb_log.specs.Keys.{IsAllowedKey, key_bytes}
 use Rattle.vb_log.specs.Layout.{Layout, end, byte, number, key_field, state_field, four, eight}
 use Rattle.vb_log.specs.Prepares.{IsPendingWithin, pending_bytes, pending_layout}
+use Rattle.vb_log.specs.Sizes.{is_within}
 use Rattle.vb_log.specs.Spelling.{IsAllowedWhat, what_bytes, what_layout}
 
 -- ---- what is allowed
@@ -53,6 +54,22 @@ pub record HasBytes (c : Content) : Type 0 where
   pub few : map.len c.items < 2 ^ 32
   pub prepares : IsPendingWithin (bounds_of c) c.prepares
 
+-- the keys of changes that wait
+abbrev pub keys_waiting : List Pending → List DocKey
+keys_waiting prepares = list_map (λ (p : Pending). p.key) prepares
+
+-- the sequence numbers of items, and the positions of changes that wait
+abbrev pub numbers_in : List Item → List Pending → List ℕ
+numbers_in items prepares = list_map (λ (i : Item). i.seqno) items ++ list_map (λ (p : Pending). p.position) prepares
+
+-- A content that has bytes: its parts keep their limits; no two changes that wait name one key; of all its items and changes
+-- that wait, no two were made by one entry; and it isn't too large.
+pub record IsWhole (c : Content) : Type 0 where
+  pub parts : HasBytes c
+  pub apart : IsDistinct (eq_by_cmp key_cmp) (keys_waiting c.prepares)
+  pub one_each : IsDistinct nat_eq (numbers_in (map.values c.items) c.prepares)
+  pub within : IsTrue (is_within c)
+
 -- ---- bytes
 
 -- an item whose parts have bytes
@@ -81,7 +98,7 @@ content_bytes c =
 
 -- a content has these bytes
 pub record IsContent (c : Content) (bytes : List ℕ) : Type 0 where
-  pub allowed : HasBytes c
+  pub whole : IsWhole c
   pub spelled : bytes ≡ content_bytes c
 
 -- ---- items in rising order of their keys

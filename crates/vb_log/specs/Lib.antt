@@ -12,3 +12,5 @@ pub mod Prepares
 pub mod Contents
 pub mod Held
 pub mod Adding
+pub mod Stored
+pub mod Wholes

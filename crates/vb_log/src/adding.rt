@@ -216,7 +216,7 @@ fn add_manifest(alloc: Global, content: &mut Content, text: &Bytes) -> Result<()
 }
 
 /// The CAS of a change.
-fn cas_of(what: &What) -> u64
+pub(crate) fn cas_of(what: &What) -> u64
     ensures { result ≡ cas_of what.now }
 {
     match what {

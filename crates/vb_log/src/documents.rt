@@ -118,7 +118,7 @@ fn attributes_at(alloc: Global, bytes: &[u8]) -> Result<(&[u8], &[u8]), FieldFau
 }
 
 /// Whether bytes are the section of some attributes.
-fn is_section(alloc: Global, bytes: &[u8]) -> Result<bool, NoMemory>
+pub(crate) fn is_section(alloc: Global, bytes: &[u8]) -> Result<bool, NoMemory>
     ensures { IfOk result (λ b. IsTrue b ↔ Spells as_section bytes.now) }
 {
     match read(alloc, bytes) {

@@ -9,10 +9,11 @@ ghost use Rattle.manifest_rules.specs.State.{are_rising};
 ghost use Rattle.manifest_rules.specs.Ids.{SameIds};
 ghost use Rattle.vb_log.specs.Sizes.{item_size};
 ghost use Rattle.vb_log.specs.Held.{item_weight, items_size};
+ghost use Rattle.vb_log.specs.Wholes.{by_keys, listed_size};
 
 use crate::sizes::{BySize, size_of};
 use doc_model::{DocKey, Item, KeyMap, Values};
-use kv_edge::{NoMemory, Seq};
+use kv_edge::{Copied, NoMemory, Seq};
 use std::alloc::Global;
 use std::marker::Model;
 
@@ -49,6 +50,20 @@ impl Items {
             by_key: KeyMap::new(alloc),
             size: 0,
         }
+    }
+
+    /// Items, of which no two may have one key if none is to be lost.
+    pub(crate) fn from_vec(alloc: Global, items: Vec<Item>) -> Result<Items, NoMemory>
+        requires { listed_size items.items < 2 ^ 64 }
+        ensures { IfOk result (λ made. made ≡ map.from_entries (by_keys items.items)) }
+    {
+        let mut left = items;
+        let mut made = Items::new(alloc);
+        while let Some(item) = left.pop() {
+            let key = item.key.copy(alloc)?;
+            made.put(alloc, &key, item)?;
+        }
+        Ok(made)
     }
 
     /// What they count together.

@@ -59,7 +59,7 @@ fn key_of(alloc: Global, spelt: &[u8]) -> Result<Option<DocKey>, NoMemory>
 }
 
 /// How many bytes a name has at most in a collection.
-fn name_limit(collection: u32) -> usize
+pub(crate) fn name_limit(collection: u32) -> usize
     ensures { result ≡ name_limit collection }
 {
     if collection == 0 {

@@ -185,6 +185,7 @@ mod entry;
 mod fields;
 mod items;
 mod judging;
+mod keeping;
 mod keys;
 mod kinds;
 mod laws;
@@ -195,7 +196,9 @@ mod reading;
 mod sizes;
 mod spelt_content;
 mod spelt_items;
+mod stored;
 mod undecided;
+mod whole;
 mod writing;
 
 pub use adding::{AddFault, add};
@@ -214,7 +217,12 @@ pub use limits::{
 };
 pub use pending::{pending_into, read_pending};
 pub use reading::{ContentFault, read_entry};
+pub use spelt_content::{content_into, read_content};
+pub use stored::{item_into, read_item};
+pub use whole::of_parts;
 pub use writing::entry_into;
 
+#[cfg(test)]
+mod content_tests;
 #[cfg(test)]
 mod tests;

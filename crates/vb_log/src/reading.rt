@@ -29,6 +29,14 @@ pub enum ContentFault {
     NoMemory,
 }
 
+impl From<NoMemory> for ContentFault {
+    ghost from_gives = { λ _ fault. fault ≡ faults.NoMemory };
+
+    fn from(_refused: NoMemory) -> ContentFault {
+        ContentFault::NoMemory
+    }
+}
+
 /// Reads the entry whose bytes these are, all of them. `Bad` comes exactly where they are no entry's,
 /// with the place where they break the layout.
 pub fn read_entry(alloc: Global, bytes: &[u8]) -> Result<Entry, ContentFault>

@@ -3,8 +3,10 @@
 ghost use Rattle.std.specs.Prelude.{◌≡◌, ◌<◌, ◌^◌};
 ghost use Rattle.doc_model.specs.declared.document.What.TheVariants as whats;
 ghost use Rattle.vb_log.specs.Sizes.{size_of};
-ghost use Rattle.vb_log.specs.Held.{item_weight};
+ghost use Rattle.vb_log.specs.Held.{item_weight, waiting_size};
+ghost use Rattle.vb_log.specs.Wholes.{listed_size};
 
+use crate::entry::Pending;
 use crate::limits::ITEM_OVERHEAD;
 use doc_model::{Doc, DocKey, Item, Weigh, What};
 
@@ -34,6 +36,30 @@ pub(crate) fn remove_size(key: &DocKey) -> u64
     ensures { result ≡ size_of key.now (whats.Remove 0) }
 {
     ITEM_OVERHEAD + key.key.len() as u64
+}
+
+/// What items count together.
+pub(crate) fn listed_size(items: &[Item]) -> u64
+    requires { listed_size items.now < 2 ^ 64 }
+    ensures { result ≡ listed_size items.now }
+{
+    let mut total = 0;
+    for item in items {
+        total += size_of(&item.key, &item.what);
+    }
+    total
+}
+
+/// What changes that wait count together.
+pub(crate) fn waiting_size(changes: &[Pending]) -> u64
+    requires { waiting_size changes.now < 2 ^ 64 }
+    ensures { result ≡ waiting_size changes.now }
+{
+    let mut total = 0;
+    for change in changes {
+        total += size_of(&change.key, &change.what);
+    }
+    total
 }
 
 /// Items count by their keys and what these have.

@@ -1,9 +1,11 @@
-ghost use Rattle.std.specs.Prelude.{◌≡◌, ◌≤◌, ◌++◌, ℕ, IfOk, IfErr, OnOk, OnErr};
+ghost use Rattle.std.specs.Prelude.{◌≡◌, ◌++◌, IfOk, IfErr, OnOk, OnErr, MatchResult};
 ghost use Rattle.manifest_rules.specs.Catalog.{Catalog};
-ghost use Rattle.vb_log.specs.Contents.{HasBytes, content_bytes, body_layout, content_layout, BodyAt, PartsAt};
+ghost use Rattle.vb_log.specs.declared.reading.ContentFault.TheVariants as faults;
+ghost use Rattle.vb_log.specs.Content as contents;
+ghost use Rattle.vb_log.specs.Contents.{HasBytes, IsContent, IsWhole, content_bytes, body_layout, content_layout, BodyAt, PartsAt};
 ghost use Rattle.vb_log.specs.Layout.{Layout, StateAt, state_field};
 ghost use Rattle.vb_log.specs.Prepares.{AreBounds};
-ghost use Rattle.vb_log.specs.Faults.{IsBroken};
+ghost use Rattle.vb_log.specs.Faults.{IsBroken, IsNoContent};
 
 use crate::bounds::Bounds;
 use crate::content::{Content, greatest_cas, length, manifest, prepares};
@@ -12,17 +14,18 @@ use crate::fields::{FieldFault, u64_within};
 use crate::limits::{GREATEST_CAS, GREATEST_POSITION};
 use crate::ordering::in_order;
 use crate::pending::{add_pending, pending_at};
-use crate::reading::ended;
+use crate::reading::{ContentFault, ended};
 use crate::spelt_items::{add_items, items_at};
+use crate::whole::whole_of;
 use doc_model::Item;
 use kv_edge::{NoMemory, Seq};
 use manifest_rules::{Manifest, StateFault, read_state, state_into};
 use std::alloc::Global;
 
-/// Appends the bytes of a content, which has to be one that has bytes. `NoMemory` comes where memory
-/// is refused, and then nothing is appended.
+/// Appends the bytes of a content, which has to be whole. `NoMemory` comes where memory is refused,
+/// and then nothing is appended.
 pub fn content_into(content: &Content, out: &mut Vec<u8>) -> Result<(), NoMemory>
-    requires { HasBytes content.now }
+    requires { IsWhole content.now }
     ensures ok { OnOk result (out.new.items ≡ out.old.items ++ content_bytes content.now) }
     ensures err { OnErr result (out.new.items ≡ out.old.items) }
 {
@@ -50,12 +53,27 @@ fn add_content(out: &mut Vec<u8>, content: &Content) -> Result<(), NoMemory>
 
 /// What a content's bytes say behind its length and its greatest CAS.
 #[derive(Drop)]
-struct Body {
-    manifest: Manifest,
+pub(crate) struct Body {
+    pub(crate) manifest: Manifest,
     /// In rising order of their keys.
-    items: Seq<Item>,
+    pub(crate) items: Seq<Item>,
     /// In rising order of their positions.
-    prepares: Seq<Pending>,
+    pub(crate) prepares: Seq<Pending>,
+}
+
+/// Reads the content whose bytes these are, all of them. `Bad` comes exactly where they are no content's, with the place where
+/// they break the layout, or 0 where they keep it and the content isn't whole.
+pub fn read_content(alloc: Global, bytes: &[u8]) -> Result<Content, ContentFault>
+    ensures found { IfOk result (λ c. IsContent c bytes.now) }
+    ensures only { (c : contents.Content) → IsContent c bytes.now
+        → MatchResult result (λ found. found ≡ c) (λ fault. fault ≡ faults.NoMemory) }
+    ensures broken { IfErr result (IsNoContent bytes.now) }
+{
+    match parts_of(alloc, bytes) {
+        Ok((bounds, body)) => whole_of(alloc, bounds, body),
+        Err(FieldFault::Broken(left)) => Err(ContentFault::Bad(bytes.len() - left)),
+        Err(FieldFault::NoMemory) => Err(ContentFault::NoMemory),
+    }
 }
 
 /// Reads a content's length and greatest CAS, and what follows them, which keeps within both.

@@ -32,7 +32,7 @@ pub(crate) fn add_items(out: &mut Vec<u8>, items: &[&Item]) -> Result<(), NoMemo
 }
 
 /// Appends an item.
-fn add_item(out: &mut Vec<u8>, item: &Item) -> Result<(), NoMemory>
+pub(crate) fn add_item(out: &mut Vec<u8>, item: &Item) -> Result<(), NoMemory>
     requires { CanBeSpelt item.now }
     ensures { OnOk result (out.new.items ≡ out.old.items ++ item_bytes item.now) }
 {
@@ -86,7 +86,7 @@ fn item_at<'b>(
 }
 
 /// A change, with a sequence number.
-fn numbered(what: What, seqno: u64) -> What
+pub(crate) fn numbered(what: What, seqno: u64) -> What
     ensures { result ≡ numbered seqno what }
 {
     match what {

@@ -1,5 +1,7 @@
 //! What no clause says: that the bytes of the definitions are those that are meant.
-use crate::{ContentFault, entry_into, pending_into, read_entry, read_pending};
+use crate::{
+    ContentFault, entry_into, item_into, pending_into, read_entry, read_item, read_pending,
+};
 use hex_rows::bytes_of;
 use kv_edge::NoMemory;
 use std::alloc::Global;
@@ -9,6 +11,8 @@ use std::alloc::Global;
 const ENTRY: u16 = 0;
 
 const PREPARES: u16 = 1;
+
+const ITEM: u16 = 2;
 
 // What is told of it.
 
@@ -40,6 +44,15 @@ fn prepares_again(alloc: Global, bytes: &[u8], out: &mut Vec<u8>) -> Result<usiz
     }
 }
 
+/// Reads the item at the front, and appends its bytes. Tells how many bytes were read.
+fn item_again(alloc: Global, bytes: &[u8], out: &mut Vec<u8>) -> Result<usize, ContentFault> {
+    let (item, used) = read_item(alloc, bytes)?;
+    match item_into(&item, out) {
+        Ok(()) => Ok(used),
+        Err(NoMemory) => Err(ContentFault::NoMemory),
+    }
+}
+
 /// Whether what a row begins with is written by the same bytes, and how many these are, or where the
 /// row breaks the layout.
 fn told(alloc: Global, kind: u16, row: &str) -> (u16, usize) {
@@ -50,6 +63,7 @@ fn told(alloc: Global, kind: u16, row: &str) -> (u16, usize) {
     let mut out = Vec::new(alloc);
     let read = match kind {
         ENTRY => entry_again(alloc, bytes.as_slice(), &mut out),
+        ITEM => item_again(alloc, bytes.as_slice(), &mut out),
         _ => prepares_again(alloc, bytes.as_slice(), &mut out),
     };
     match read {
@@ -254,4 +268,36 @@ fn what_are_no_prepares_breaks_the_layout_at_its_place(rt: HostRuntime) {
         ),
     ];
     assert_eq!(rt; first_wrong(rt.alloc(), PREPARES, rows), None);
+}
+
+#[test]
+fn items_are_read_and_written(rt: HostRuntime) {
+    let rows: &[(&str, (u16, usize))] = &[
+        ("020061 0000000000000003 02 0000000000000009", (WRITTEN, 20)),
+        (
+            "020061 000003ffffffffff 02 7fffffffffffffff 00",
+            (WRITTEN, 20),
+        ),
+        (
+            "0308626b 0000000000000001 \
+             01 0000000000000004 00000000 00000000 00 00000000 00000001 78 0061",
+            (WRITTEN, 39),
+        ),
+    ];
+    assert_eq!(rt; first_wrong(rt.alloc(), ITEM, rows), None);
+}
+
+#[test]
+fn what_is_no_item_breaks_the_layout_at_its_place(rt: HostRuntime) {
+    let rows: &[(&str, (u16, usize))] = &[
+        ("", (BAD, 0)),
+        ("fc0061", (BAD, 0)),
+        ("0100 0000000000000003 02 0000000000000009", (BAD, 1)),
+        ("020061 0000000000000000 02 0000000000000009", (BAD, 3)),
+        ("020061 0000040000000000 02 0000000000000009", (BAD, 3)),
+        ("020061 00000000000003", (BAD, 3)),
+        ("020061 0000000000000003 03 0000000000000009", (BAD, 11)),
+        ("020061 0000000000000003 02 8000000000000000", (BAD, 12)),
+    ];
+    assert_eq!(rt; first_wrong(rt.alloc(), ITEM, rows), None);
 }

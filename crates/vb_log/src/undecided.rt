@@ -10,7 +10,7 @@ ghost use Rattle.vb_log.specs.Content.{prepare_at, prepare_of, other_than};
 ghost use Rattle.vb_log.specs.Held.{pending_weight, pending_size, waiting_size, positions_rise};
 
 use crate::entry::Pending;
-use crate::sizes::size_of;
+use crate::sizes::{size_of, waiting_size};
 use doc_model::DocKey;
 use kv_edge::{Copied, NoMemory};
 use std::alloc::Global;
@@ -48,6 +48,16 @@ impl Undecided {
             changes: Vec::new(alloc),
             size: 0,
         }
+    }
+
+    /// Changes whose positions rise.
+    pub(crate) fn from_vec(changes: Vec<Pending>) -> Undecided
+        requires rise { IsTrue (positions_rise changes.items) }
+        requires room { waiting_size changes.items < 2 ^ 64 }
+        ensures { result ≡ changes.items }
+    {
+        let size = waiting_size(changes.as_slice());
+        Undecided { changes, size }
     }
 
     /// The changes, in rising order of their positions.

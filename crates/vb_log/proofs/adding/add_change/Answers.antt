@@ -1,4 +1,3 @@
-use Rattle.std.specs.Prelude.{true, not}
 use Rattle.std.proofs.Common.{◌+◌, ◌∙◌, ap, subst, sym}
 use Rattle.std.specs.FinMap as map
 use Rattle.vb_log.specs.Adding.{HasRoom, with_change}

@@ -1,9 +1,9 @@
 use Rattle.std.specs.Prelude.{is_some}
-use Rattle.std.proofs.Common.{◌∙◌, ap, subst, sym}
+use Rattle.std.proofs.Common.{subst, sym}
 use Rattle.vb_log.specs.declared.entry.Entry.TheVariants as entries
 use Rattle.vb_log.specs.Adding.{HasRoom}
 use Rattle.vb_log.specs.Content.{prepare_at, with_entry}
-use Rattle.vb_log.proofs.Holding.{found, commit_is, commit_held}
+use Rattle.vb_log.proofs.Holding.{found, commit_held}
 use Rattle.vb_log.proofs.adding.add_commit.Goals as goal
 
 pub invariant_of-content-2 : goal.invariant_of-content-2

@@ -1,6 +1,6 @@
 use Rattle.std.specs.Prelude.{cond}
 use Rattle.std.specs.FinMap as map
-use Rattle.std.proofs.Common.{◌+◌, ◌∙◌, ap, sym, arith, subst}
+use Rattle.std.proofs.Common.{◌∙◌, ap, sym, arith}
 use Rattle.vb_log.specs.declared.entry.Entry.TheVariants as entries
 use Rattle.vb_log.specs.Content.{with_entry}
 use Rattle.vb_log.specs.Sizes.{item_size, size}

@@ -1,4 +1,4 @@
-use Rattle.std.proofs.Common.{◌+◌, ◌∙◌, ap, sym, arith, subst}
+use Rattle.std.proofs.Common.{ap, arith, subst}
 use Rattle.manifest_rules.specs.Applying.{text_step, Drops}
 use Rattle.vb_log.specs.declared.entry.Entry.TheVariants as entries
 use Rattle.vb_log.specs.Content.{with_entry}

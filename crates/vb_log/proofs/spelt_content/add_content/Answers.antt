@@ -1,8 +1,7 @@
-use Rattle.std.proofs.Common.{◌≡◌, ◌++◌, Bor, All, List, length, map as list_map, sym, ap, ◌∙◌, subst, arith}
+use Rattle.std.proofs.Common.{◌≡◌, ◌++◌, map as list_map, sym, ap, ◌∙◌, subst}
 use Rattle.std.specs.FinMap as map
-use Rattle.doc_model.specs.declared.document.Item.{Item}
 use Rattle.manifest_rules.specs.State.{state_of}
-use Rattle.vb_log.specs.Contents.{CanBeSpelt, bounds_of, items_bytes}
+use Rattle.vb_log.specs.Contents.{bounds_of}
 use Rattle.vb_log.specs.Held.{StandAtKeys}
 use Rattle.vb_log.specs.Prepares.{IsAllowedPending, pending_bytes}
 use Rattle.vb_log.proofs.ContentBytes.{bounds_within, widened, lent_few, lent_allowed, content_written}
