@@ -124,7 +124,8 @@ room_there items key = go (is_some (map.get items key)) refl
     go true e = e
     go false e = ap is_some (map.get-insert keys_total items key (mark key) key) ∙ ap (λ b. is_some (cond b (Some (mark key)) (map.get items key))) (key_tied key)
 
-twice : (items : map.FinMap key_cmp Item) (key : DocKey) (first second : Item) → map.insert (map.insert items key first) key second ≡ map.insert items key second
+-- what is set twice
+pub twice : (items : map.FinMap key_cmp Item) (key : DocKey) (first second : Item) → map.insert (map.insert items key first) key second ≡ map.insert items key second
 twice items key first second = map.same_map keys_total exact_keys (map.insert (map.insert items key first) key second) (map.insert items key second) (λ q.
     map.get-insert keys_total (map.insert items key first) key second q
     ∙ ap (cond (eq_by_cmp key_cmp q key) (Some second)) (map.get-insert keys_total items key first q)

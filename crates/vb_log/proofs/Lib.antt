@@ -15,9 +15,11 @@ pub mod Weighing
 pub mod ContentBytes
 pub mod Prepared
 pub mod Holding
-pub mod StoredBytes
 pub mod Together
+pub mod StoredBytes
 pub mod Distinct
 pub mod Leftover
 pub mod Wholes
 pub mod WholeBytes
+pub mod Behind
+pub mod Joined

@@ -51,11 +51,11 @@ own (e ∷ es) once at =
     later q v f false is = f
 
 -- the items of a map, with their keys
-record AreOwn (m : map.FinMap key_cmp Item) (items : List Item) : Type 0 where
-  once : StandOnce (keyed items)
-  made : map.from_entries (keyed items) ≡ m
+pub record AreOwn (m : map.FinMap key_cmp Item) (items : List Item) : Type 0 where
+  pub once : StandOnce (keyed items)
+  pub made : map.from_entries (keyed items) ≡ m
 
-are_own : (m : map.FinMap key_cmp Item) (items : List Item) → AreValues m items → StandAtKeys m → AreOwn m items
+pub are_own : (m : map.FinMap key_cmp Item) (items : List Item) → AreValues m items → StandAtKeys m → AreOwn m items
 are_own m items v at =
     let is : v.entries ≡ keyed items = own v.entries v.once (λ q i f. at q i (ap (λ n. map.get n q) (sym v.made) ∙ map.get-from_entries keys_total v.entries q ∙ f)) ∙ ap keyed v.read in
     record { once = subst StandOnce is v.once; made = ap map.from_entries (sym is) ∙ v.made }

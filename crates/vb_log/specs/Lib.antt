@@ -14,3 +14,4 @@ pub mod Held
 pub mod Adding
 pub mod Stored
 pub mod Wholes
+pub mod Joining

@@ -1,6 +1,6 @@
 //! What each key has.
 
-ghost use Rattle.std.specs.Prelude.{◌≡◌, ◌≤◌, ◌<◌, ◌+◌, ◌^◌, ◌++◌, not, is_some, map as list_map, IsTrue, IfOk, OnOk, OnErr, if◌then◌else◌};
+ghost use Rattle.std.specs.Prelude.{◌≡◌, ◌≤◌, ◌<◌, ◌+◌, ◌^◌, ◌++◌, not, true, is_some, map as list_map, IsTrue, IfOk, OnOk, OnErr};
 ghost use Rattle.std.specs.Option.{option_copied};
 ghost use Rattle.std.specs.FinMap as map;
 ghost use Rattle.doc_model.specs.Keys.{is_in};
@@ -8,7 +8,7 @@ ghost use Rattle.doc_model.specs.Values.{AreValues};
 ghost use Rattle.manifest_rules.specs.State.{are_rising};
 ghost use Rattle.manifest_rules.specs.Ids.{SameIds};
 ghost use Rattle.vb_log.specs.Sizes.{item_size};
-ghost use Rattle.vb_log.specs.Held.{item_weight, items_size};
+ghost use Rattle.vb_log.specs.Held.{item_weight, items_size, StandAtKeys};
 ghost use Rattle.vb_log.specs.Wholes.{by_keys, listed_size};
 
 use crate::sizes::{BySize, size_of};
@@ -94,8 +94,11 @@ impl Items {
 
     /// All items, each once, in an order that is left open.
     pub(crate) fn values(&self) -> Values<'_, Item>
-        ensures { AreValues self.now (list_map (λ e. e.1) result.slots ++ result.others) }
+        ensures values { AreValues self.now (list_map (λ e. e.1) result.slots ++ result.others) }
+        ensures stand { StandAtKeys self.now }
+        ensures fits { items_size self.now < 2 ^ 64 }
     {
+        let _size = self.size;
         self.by_key.values()
     }
 
@@ -111,6 +114,7 @@ impl Items {
         ensures before { IfOk result (λ had. had ≡ map.get self.old key.now) }
         ensures ok { OnOk result (self.new ≡ map.insert self.old key.now item) }
         ensures err { OnErr result (self.new ≡ self.old) }
+        ensures stand { StandAtKeys self.old }
     {
         let added = size_of(&item.key, &item.what);
         let had = self.by_key.insert(alloc, key, item)?;
@@ -118,19 +122,16 @@ impl Items {
         Ok(had)
     }
 
-    /// Sets the item of a key that has one, and answers the one before. It takes no memory. A key that has none gets none.
-    pub(crate) fn replace(&mut self, key: &DocKey, item: Item) -> Option<Item>
+    /// Sets the item of a key that has one. It takes no memory.
+    pub(crate) fn replace(&mut self, key: &DocKey, item: Item)
         requires own { item.key ≡ key.now }
-        requires room { items_size self.old + item_weight item < 2 ^ 64 }
-        ensures before { result ≡ map.get self.old key.now }
-        ensures replaced { self.new ≡ (if is_some (map.get self.old key.now) then map.insert self.old key.now item else self.old) }
+        requires has { is_some (map.get self.old key.now) ≡ true }
+        requires room { items_size (map.insert self.old key.now item) < 2 ^ 64 }
+        ensures { self.new ≡ map.insert self.old key.now item }
     {
         let added = size_of(&item.key, &item.what);
         let had = self.by_key.replace(key, item);
-        if had.is_some() {
-            self.size = self.size + added - weight(&had);
-        }
-        had
+        self.size = self.size - weight(&had) + added;
     }
 
     /// Takes away the item of a key, and answers it.

@@ -33,6 +33,22 @@
 //! kept (`folds_follow_their_entries`). What of a content lies behind a position and what the log
 //! came to up to there are together the whole content (`parts_join_back`).
 //!
+//! # Whole contents
+//!
+//! A content is whole, and has bytes, where its parts keep their limits, no two changes that wait
+//! name one key, no two of all its items and changes that wait were made by one entry, and it isn't
+//! too large (`specs/Contents.antt`, `IsWhole`).
+//!
+//! - `content_into` appends the bytes of a whole content, and `read_content` reads it back; bytes of
+//!   which each field is as it has to be, but whose content isn't whole, are no content's.
+//! - `item_into` and `read_item` do the same with an item by itself, for a store that keeps items
+//!   apart; `read_item` leaves what follows to who reads on.
+//! - `of_parts` makes a whole content of its items, in whatever order these stand, and its other
+//!   parts. It refuses them where no content that has them is whole.
+//! - `difference_from` copies what of a content lies behind a position. `join` joins it to a content
+//!   that ends there: new items stand over old ones, those of dropped collections go, and all else
+//!   is the part's. Where memory is refused, the content stays as it was.
+//!
 //! # A worked log
 //!
 //! Keys are in collection 0. `d` and `e` are documents with the CAS 2 and 3.
@@ -132,7 +148,9 @@
 //! | sequence number | 8 | 1 to the length |
 //! | change | as in an entry | as in an entry, and no CAS above the greatest |
 //!
-//! A document has the sequence number of its item. Keys rise by collection, and then byte by byte.
+//! A document has the sequence number of its item. Keys rise by collection, and then byte by byte. An
+//! item by itself has these fields too, but the bounds of any content: a collection of any id, a sequence
+//! number of 1 to 2^42 - 1, and a CAS below 2^63.
 //!
 //! Worked example, a content of five entries, of which the third deleted `a` with the CAS 9 and the fifth
 //! prepares the deletion of `b`:
@@ -156,7 +174,8 @@
 //! `Bad` has the offset of the first field that isn't there, passes its bounds or hasn't its form;
 //! or that of the first byte behind the last field. A length that passes its bound breaks the
 //! layout at the length; bytes that are fewer than the length says, or that don't spell what they
-//! should, where they begin: a key's id and name are one field, and so is a section of attributes.
+//! should, where they begin: a key's id and name are one field, and so is a section of attributes. Where
+//! each field of a content is as it has to be, and the content isn't whole, the place is 0.
 //!
 //! | Bytes | What is told |
 //! |---|---|
@@ -184,6 +203,7 @@ mod documents;
 mod entry;
 mod fields;
 mod items;
+mod joining;
 mod judging;
 mod keeping;
 mod keys;
@@ -193,6 +213,7 @@ mod limits;
 mod ordering;
 mod pending;
 mod reading;
+mod setting;
 mod sizes;
 mod spelt_content;
 mod spelt_items;
@@ -204,6 +225,7 @@ mod writing;
 pub use adding::{AddFault, add};
 pub use content::{Content, empty, greatest_cas, item, length, manifest, prepares, size};
 pub use entry::{Entry, Pending};
+pub use joining::{Difference, difference_from, join};
 pub use judging::{allowed, size_after};
 pub use laws::{
     abort_only_ends_its_prepare, changes_count_once, commit_shows_what_was_prepared,
@@ -224,5 +246,7 @@ pub use writing::entry_into;
 
 #[cfg(test)]
 mod content_tests;
+#[cfg(test)]
+mod joining_tests;
 #[cfg(test)]
 mod tests;

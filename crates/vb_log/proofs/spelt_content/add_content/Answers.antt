@@ -11,14 +11,14 @@ pub add_items-requires-clause-few : goal.add_items-requires-clause-few
 add_items-requires-clause-few c =
     let m = c.args.content.now in
     let own : StandAtKeys c.content.inside.items = subst (λ k. StandAtKeys k.items) (sym c.content.view_is) c.requires.own in
-    let values : list_map (λ i. i.now) c.in_ok-items.items.items ≡ map.values m.items = c.in_ok-items.ensures c.content.inside.items c.values.ensures own ∙ ap (λ k. map.values k.items) c.content.view_is in
+    let values : list_map (λ i. i.now) c.in_ok-items.items.items ≡ map.values m.items = c.in_ok-items.ensures c.content.inside.items c.values.ensures.values own ∙ ap (λ k. map.values k.items) c.content.view_is in
     lent_few m c.as_slice.result.now c.requires (ap (list_map (λ i. i.now)) c.as_slice.ensures.value ∙ values)
 
 pub add_items-requires-clause-allowed : goal.add_items-requires-clause-allowed
 add_items-requires-clause-allowed c =
     let m = c.args.content.now in
     let own : StandAtKeys c.content.inside.items = subst (λ k. StandAtKeys k.items) (sym c.content.view_is) c.requires.own in
-    let values : list_map (λ i. i.now) c.in_ok-items.items.items ≡ map.values m.items = c.in_ok-items.ensures c.content.inside.items c.values.ensures own ∙ ap (λ k. map.values k.items) c.content.view_is in
+    let values : list_map (λ i. i.now) c.in_ok-items.items.items ≡ map.values m.items = c.in_ok-items.ensures c.content.inside.items c.values.ensures.values own ∙ ap (λ k. map.values k.items) c.content.view_is in
     lent_allowed m c.as_slice.result.now c.requires (ap (list_map (λ i. i.now)) c.as_slice.ensures.value ∙ values)
 
 pub add_pending-requires : goal.add_pending-requires
@@ -30,7 +30,7 @@ pub returns : goal.returns
 returns c =
     let m = c.args.content.now in
     let own : StandAtKeys c.content.inside.items = subst (λ k. StandAtKeys k.items) (sym c.content.view_is) c.requires.own in
-    let values : list_map (λ i. i.now) c.in_ok-items.items.items ≡ map.values m.items = c.in_ok-items.ensures c.content.inside.items c.values.ensures own ∙ ap (λ k. map.values k.items) c.content.view_is in
+    let values : list_map (λ i. i.now) c.in_ok-items.items.items ≡ map.values m.items = c.in_ok-items.ensures c.content.inside.items c.values.ensures.values own ∙ ap (λ k. map.values k.items) c.content.view_is in
     content_written m (list_map (λ i. i.now) c.as_slice.result.now) c.args.out.now.items c.extend_from_slice.new.self.items c.extend_from_slice-2.new.self.items c.state_into.new.out.items c.add_items.new.out.items c.add_pending.new.out.items
     (ap (list_map (λ i. i.now)) c.as_slice.ensures.value ∙ values)
     (c.in_ok-extend_from_slice.ensures.items ∙ ap (λ l. c.args.out.now.items ++ l) (cc))

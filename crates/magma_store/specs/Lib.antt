@@ -1,0 +1,17 @@
+pub mod Counting
+pub mod Journal
+pub mod Changes
+pub mod Forms
+pub mod Layout
+pub mod Held
+pub mod Spots
+pub mod Reading
+pub mod Store
+pub mod Loading
+pub mod Taking
+pub mod Opening
+pub mod Writing
+pub mod Gotten
+pub mod Gates
+pub mod Room
+pub mod Fronts
