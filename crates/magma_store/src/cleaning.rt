@@ -15,7 +15,7 @@ pub struct Account {
 pub enum Cleaned {
     /// There is nothing to clean.
     Nothing,
-    /// So many bytes were moved.
+    /// So many items were moved.
     Moved(u32),
     /// A segment is free again.
     Freed(u16),

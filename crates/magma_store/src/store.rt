@@ -275,7 +275,7 @@ impl<D: Disk> Store<D> {
         &[]
     }
 
-    /// Cleans a segment, of which at most so many bytes are moved. In a flat journal there is nothing to clean.
+    /// Cleans a segment, of which at most so many items are moved. In a flat journal there is nothing to clean.
     pub fn clean(&mut self, most: u32) -> Cleaned
         requires { 1 ≤ most }
         ensures answer { result ≡ Cleaned.Nothing }
