@@ -1,4 +1,8 @@
-use kv_edge::{Bytes, Seq};
+ghost use Rattle.std.specs.Prelude.{◌≡◌, ◌≤◌, [], ◌∷◌, Some, length, IfOk};
+ghost use Rattle.durability_core.specs.Chains.{IsChain};
+
+use kv_edge::{Bytes, Copied, NoMemory, Seq};
+use std::alloc::Global;
 
 /// The places of a vbucket's copies: 1 to 4, each with a name of 1 to 255 bytes or without one, the
 /// first with a name.
@@ -6,4 +10,38 @@ use kv_edge::{Bytes, Seq};
 pub struct Chain {
     /// The name of each place, where it has one; places count from 0.
     pub names: Seq<Option<Bytes>>,
+}
+
+impl Chain {
+    /// The chain of one place, which has a name of 1 to 255 bytes.
+    pub fn of_one(alloc: Global, name: &[u8]) -> Result<Chain, NoMemory>
+        requires some { 1 ≤ length name.now }
+        requires short { length name.now ≤ 255 }
+        ensures names { IfOk result (λ made. made.names ≡ Some name.now ∷ []) }
+        ensures chain { IfOk result IsChain }
+    {
+        let mut names = Seq::new(alloc);
+        names.push(Some(Bytes::from_slice(alloc, name)?))?;
+        Ok(Chain { names })
+    }
+}
+
+impl Copied for Chain {
+    fn copy(&self, alloc: Global) -> Result<Chain, NoMemory> {
+        let mut names = Seq::new(alloc);
+        for name in self.names.as_slice() {
+            names.push(copied_name(alloc, name)?)?;
+        }
+        Ok(Chain { names })
+    }
+}
+
+/// An equal name, or none.
+fn copied_name(alloc: Global, name: &Option<Bytes>) -> Result<Option<Bytes>, NoMemory>
+    ensures { IfOk result (λ made. made ≡ name.now) }
+{
+    match name {
+        Some(name) => Ok(Some(name.copy(alloc)?)),
+        None => Ok(None),
+    }
 }

@@ -21,7 +21,7 @@ use crate::spelling::{made_piece, sets_piece};
 use crate::spot::Spot;
 use doc_model::KeyMap;
 use durability_core::Chain;
-use kv_edge::{Bytes, Copied, NoMemory, Seq};
+use kv_edge::{Bytes, Copied, NoMemory};
 use magma_disk::{Disk, DiskDone};
 use std::alloc::Global;
 
@@ -109,7 +109,7 @@ fn make<D: Disk>(
 {
     let piece = made_piece(alloc, chain, place)?;
     let opened = Opened {
-        meta: first_meta(alloc, copied_chain(alloc, chain)?, place),
+        meta: first_meta(alloc, chain.copy(alloc)?, place),
         spots: KeyMap::new(alloc),
         filled: piece.len() as u64,
     };
@@ -222,26 +222,5 @@ pub(crate) fn numbers_of(meta: &Meta) -> Numbers
         incarnation: meta.incarnation,
         length: meta.length,
         cas: meta.cas,
-    }
-}
-
-/// An equal chain.
-fn copied_chain(alloc: Global, chain: &Chain) -> Result<Chain, NoMemory>
-    ensures { IfOk result (λ made. made ≡ chain.now) }
-{
-    let mut names = Seq::new(alloc);
-    for name in chain.names.as_slice() {
-        names.push(copied_name(alloc, name)?)?;
-    }
-    Ok(Chain { names })
-}
-
-/// An equal name, or none.
-fn copied_name(alloc: Global, name: &Option<Bytes>) -> Result<Option<Bytes>, NoMemory>
-    ensures { IfOk result (λ made. made ≡ name.now) }
-{
-    match name {
-        Some(name) => Ok(Some(name.copy(alloc)?)),
-        None => Ok(None),
     }
 }

@@ -168,6 +168,8 @@ impl<D: Disk> Store<D> {
         ensures meta { OnOk result (self.new.meta ≡ meta) }
         ensures room { OnOk result (layouts.needed self.old.layout is_anew (list_map (λ i. i.now) batch.now) meta ≤ layouts.free self.old.layout) }
         ensures refused { IfErr result (IsUnwritten D.states (layouts.needed self.old.layout is_anew (list_map (λ i. i.now) batch.now) meta) (layouts.free self.old.layout) self.old self.new) }
+        ensures own { (self.new.meta.chain ≡ self.old.meta.chain) × (self.new.meta.place ≡ self.old.meta.place) }
+        ensures silent { D.states self.old.disk ≡ [] → D.states self.new.disk ≡ [] }
         ensures counts { CountsStore (IsErrOf result StoreFault.DiskFault) (D.counts self.old.disk) (D.counts self.new.disk) }
     {
         if self.filled > FILLED_LIMIT {
@@ -258,6 +260,7 @@ impl<D: Disk> Store<D> {
             → IsAtRest (records ++ held ∷ []) (D.states self.new.disk)) }
         ensures rest { self.new ≡ record self.old { disk = self.new.disk; layout = self.old.layout + length piece.now } }
         ensures stopped { IfErr result (λ why. why ≡ StoreFault.DiskFault) }
+        ensures silent { D.states self.old.disk ≡ [] → D.states self.new.disk ≡ [] }
         ensures counts { CountsStore (IsErrOf result StoreFault.DiskFault) (D.counts self.old.disk) (D.counts self.new.disk) }
     {
         let end = self.filled;

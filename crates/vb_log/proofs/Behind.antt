@@ -51,7 +51,7 @@ each_found (i ∷ items) once = (
     later (j ∷ js) h = (one j h.0 (eq_by_cmp key_cmp j.key i.key) refl, later js h.1)
 
 -- the items of a map are those that their keys have
-each_own : (m : map.FinMap key_cmp Item) (items : List Item) → StandOnce (by_keys items) → map.from_entries (by_keys items) ≡ m → AllByRecursion (λ (i : Item). map.get m i.key ≡ Some i) items
+pub each_own : (m : map.FinMap key_cmp Item) (items : List Item) → StandOnce (by_keys items) → map.from_entries (by_keys items) ≡ m → AllByRecursion (λ (i : Item). map.get m i.key ≡ Some i) items
 each_own m items once made = go items (each_found items once)
   where
     go : (js : List Item) → AllByRecursion (λ (j : Item). find key_cmp j.key (by_keys items) ≡ Some j) js → AllByRecursion (λ (j : Item). map.get m j.key ≡ Some j) js
@@ -94,7 +94,7 @@ all_behind m items from v at =
 -- ---- a part of a content
 
 -- items that keys have are in collections that are there
-there_own : (manifest : Catalog) (m : map.FinMap key_cmp Item) (items : List Item) → AreThere manifest m → AllByRecursion (λ (i : Item). map.get m i.key ≡ Some i) items → AllByRecursion (λ (i : Item). has_collection manifest i.key.collection ≡ true) items
+pub there_own : (manifest : Catalog) (m : map.FinMap key_cmp Item) (items : List Item) → AreThere manifest m → AllByRecursion (λ (i : Item). map.get m i.key ≡ Some i) items → AllByRecursion (λ (i : Item). has_collection manifest i.key.collection ≡ true) items
 there_own manifest m [] there h = tt
 there_own manifest m (i ∷ items) there h = (go (has_collection manifest i.key.collection) refl, there_own manifest m items there h.1)
   where

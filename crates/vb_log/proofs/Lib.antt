@@ -23,3 +23,4 @@ pub mod Wholes
 pub mod WholeBytes
 pub mod Behind
 pub mod Joined
+pub mod Positions

@@ -15,3 +15,4 @@ pub mod Adding
 pub mod Stored
 pub mod Wholes
 pub mod Joining
+pub mod Flushing

@@ -180,7 +180,7 @@ fn weight(item: &Option<Item>) -> u64
 }
 
 /// The ids in rising order, each once.
-pub(crate) fn rising(ids: Seq<u32>) -> Vec<u32>
+pub fn rising(ids: Seq<u32>) -> Vec<u32>
     ensures rising { IsTrue (are_rising result.items) }
     ensures same { SameIds result.items ids }
 {

@@ -202,6 +202,7 @@ mod content;
 mod documents;
 mod entry;
 mod fields;
+mod flushing;
 mod items;
 mod joining;
 mod judging;
@@ -225,6 +226,8 @@ mod writing;
 pub use adding::{AddFault, add};
 pub use content::{Content, empty, greatest_cas, item, length, manifest, prepares, size};
 pub use entry::{Entry, Pending};
+pub use flushing::{by_position, emptied, spelt_length, weight};
+pub use items::rising;
 pub use joining::{Difference, difference_from, join};
 pub use judging::{allowed, size_after};
 pub use laws::{

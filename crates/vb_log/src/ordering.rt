@@ -17,10 +17,18 @@ pub(crate) fn in_order<'a>(
     ensures { (m : map.FinMap key_cmp Item) → AreValues m (list_map (λ e. e.1) values.entry.slots ++ values.entry.others)
         → StandAtKeys m → IfOk result (λ items. list_map (λ i. i.now) items.items ≡ map.values m) }
 {
+    let mut items = listed(alloc, values)?;
+    items.sort_unstable_by(|a, b| a.key.cmp(&b.key));
+    Ok(items)
+}
+
+/// The values, in the order in which they come.
+pub(crate) fn listed<'a>(alloc: Global, values: Values<'a, Item>) -> Result<Vec<&'a Item>, NoMemory>
+    ensures { IfOk result (λ items. list_map (λ i. i.now) items.items ≡ list_map (λ e. e.1) values.entry.slots ++ values.entry.others) }
+{
     let mut items = Vec::new(alloc);
     for item in values {
         items.push(item)?;
     }
-    items.sort_unstable_by(|a, b| a.key.cmp(&b.key));
     Ok(items)
 }

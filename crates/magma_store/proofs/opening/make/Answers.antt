@@ -29,7 +29,7 @@ returns-in-Done-clause-finishes g c = λ file is unused.
     made_done chain place c.requires.chain c.requires.place file _ _ _ unused
     (c.add.ensures.any_moment file [] made is unused refl few piece)
     (c.in-Done.ensures.added file [] made is unused refl few piece refl)
-    (c.first_meta.ensures ∙ ap (λ (ch : Chain). (first_held ch place).meta) c.in_ok-copied_chain.ensures)
+    (c.first_meta.ensures ∙ ap (λ (ch : Chain). (first_held ch place).meta) c.in_ok-copy.ensures)
     c.new.ensures filled
 
 pub returns-in-Done-clause-sound : goal.returns-in-Done-clause-sound

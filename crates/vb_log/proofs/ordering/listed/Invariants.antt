@@ -1,6 +1,6 @@
 use Rattle.std.proofs.Common.{◌≡◌, ◌++◌}
 use Rattle.std.proofs.Common.{map as list_map}
-use Rattle.vb_log.proofs.ordering.in_order.Given as goal
+use Rattle.vb_log.proofs.ordering.listed.Given as goal
 
 abbrev pub invariant-loop-item : goal.invariant-loop-item
 invariant-loop-item l =

@@ -1,5 +1,6 @@
 use Rattle.std.proofs.Common.{◌≡◌, take}
-use Rattle.magma_store.proofs.opening.copied_chain.Given as goal
+use Rattle.durability_core.proofs.chain.ChainCopied.copy.Given as goal
 
+-- the names so far are copied
 abbrev pub invariant-loop-name : goal.invariant-loop-name
 invariant-loop-name l = l.names ≡ take l.name-index l.name-items
