@@ -13,7 +13,7 @@ use kv_edge::{NoMemory, Sink, WriteAll, write_all};
 use kv_request::Reply;
 use kv_session::{Next, Session};
 use std::alloc::Global;
-use vb_core::Vb;
+use vb_core::PlainVb;
 
 /// How many bytes of replies are gathered before they are written.
 const OUTPUT_PIECE: usize = 65536;
@@ -22,7 +22,7 @@ const OUTPUT_PIECE: usize = 65536;
 #[derive(Drop)]
 pub(crate) struct Connection {
     session: Session,
-    vb: Vb,
+    vb: PlainVb,
     /// The bytes of replies that aren't written yet.
     out: Vec<u8>,
     /// How many bytes were fed to the session.
@@ -47,7 +47,7 @@ impl Connection {
     pub(crate) fn open(alloc: Global) -> Result<Connection, NoMemory>
         ensures { IfOk result IsNew }
     {
-        let vb = Vb::open_plain(alloc)?;
+        let vb = PlainVb::open_plain(alloc)?;
         Ok(Connection {
             session: Session::new(alloc),
             vb,

@@ -95,7 +95,7 @@ pub(crate) fn document_at<'a>(documents: &'a KeyMap<What>, key: &DocKey) -> Opti
 }
 
 /// Whether the reply to a change tells term and position.
-fn tells_token(body: &Body) -> bool
+pub(crate) fn tells_token(body: &Body) -> bool
     ensures { result ≡ tells_token body.now }
 {
     !matches!(body, Body::Touch { .. })

@@ -1,4 +1,4 @@
-//! What those who use documents rely on, as laws of the step that `Vb::request` makes.
+//! What those who use documents rely on, as laws of the step that `PlainVb::request` makes.
 
 ghost use Rattle.std.specs.Prelude.{◌≡◌, ◌≢◌, ◌≤◌, ◌⊎◌, ℕ, false, List, None, IsSome};
 ghost use Rattle.std.specs.List.{AllByRecursion};

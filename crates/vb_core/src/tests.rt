@@ -1,7 +1,7 @@
 ghost use Rattle.std.specs.Prelude.{◌≡◌};
 ghost use Rattle.kv_request.specs.Tables.{is_for_session};
 
-use crate::Vb;
+use crate::PlainVb;
 use doc_model::{Refused, Status};
 use kv_edge::{Bytes, NoMemory, Seq};
 use kv_frame::{Frame, FrameExtra, Magic, fits};
@@ -128,7 +128,7 @@ fn is_of_session(body: &Body) -> bool
 }
 
 // What is answered at this moment. It goes by a frame, since only a request of a frame may be handed to a vbucket.
-fn ask(alloc: Global, vb: &mut Vb, asked: Asked<'_>, now: u64) -> Result<Reply, Refused> {
+fn ask(alloc: Global, vb: &mut PlainVb, asked: Asked<'_>, now: u64) -> Result<Reply, Refused> {
     let frame = frame(alloc, asked)?;
     if !fits(&frame) {
         return Err(Refused::Status(Status::EINVAL));
@@ -150,7 +150,7 @@ fn first_other_status(
     alloc: Global,
     rows: &[(Asked<'_>, u64, u16)],
 ) -> Result<Option<usize>, Refused> {
-    let mut vb = Vb::open_plain(alloc)?;
+    let mut vb = PlainVb::open_plain(alloc)?;
     for (place, (asked, now, status)) in rows.iter().enumerate() {
         let reply = ask(alloc, &mut vb, *asked, *now)?;
         if reply.status.code != *status {
@@ -175,7 +175,7 @@ fn first_other_change(
     now: u64,
     rows: &[(Asked<'_>, u64, u64)],
 ) -> Result<Option<usize>, Refused> {
-    let mut vb = Vb::open_plain(alloc)?;
+    let mut vb = PlainVb::open_plain(alloc)?;
     for (place, (asked, cas, position)) in rows.iter().enumerate() {
         let reply = ask(alloc, &mut vb, *asked, now)?;
         if reply.cas != *cas || position_told(&reply) != *position {
@@ -190,7 +190,7 @@ fn first_other_body(
     alloc: Global,
     rows: &[(Asked<'_>, &[u8], &[u8])],
 ) -> Result<Option<usize>, Refused> {
-    let mut vb = Vb::open_plain(alloc)?;
+    let mut vb = PlainVb::open_plain(alloc)?;
     for (place, (asked, extras, value)) in rows.iter().enumerate() {
         let reply = ask(alloc, &mut vb, *asked, 0)?;
         if reply.opcode != asked.opcode || reply.opaque != 7 {

@@ -27,7 +27,7 @@ pub const VBUCKET: u16 = 0;
 
 /// A vbucket. Contracts see what its history comes to and the greatest moment that it has seen.
 #[derive(Drop)]
-pub struct Vb {
+pub struct PlainVb {
     alloc: Global,
     documents: KeyMap<What>,
     greatest_cas: u64,
@@ -38,7 +38,7 @@ pub struct Vb {
     seen: u64,
 }
 
-impl Model for Vb {
+impl Model for PlainVb {
     ghost use Rattle.std.specs.Prelude.{◌≤◌, IsTrue};
     ghost use Rattle.std.specs.FinMap as map;
     ghost use Rattle.doc_model.specs.Keys.{coded_key};
@@ -58,12 +58,12 @@ impl Model for Vb {
     ghost invariant = { λ vb. AreSmall vb.documents × (vb.seen ≤ LAST_MOMENT) × IsTrue (is_kept vb.manifest) };
 }
 
-impl Vb {
+impl PlainVb {
     /// A vbucket in memory without a history.
-    pub fn open_plain(alloc: Global) -> Result<Vb, NoMemory>
+    pub fn open_plain(alloc: Global) -> Result<PlainVb, NoMemory>
         ensures { IfOk result (λ vb. vb ≡ new_copy) }
     {
-        Ok(Vb {
+        Ok(PlainVb {
             alloc,
             documents: KeyMap::new(alloc),
             greatest_cas: 0,
