@@ -119,7 +119,8 @@ fn first_other(alloc: Global, rows: &[(u8, &str, &str, u16)]) -> Result<Option<u
                 DONE
             }
             opcode => {
-                let reply = ask(alloc, &mut vb, opcode, key, value)?;
+                let sent = if opcode == GET { "" } else { value };
+                let reply = ask(alloc, &mut vb, opcode, key, sent)?;
                 if opcode == GET && reply.value.as_slice() != value.as_bytes() {
                     return Ok(Some(place));
                 }
