@@ -8,6 +8,8 @@ use Rattle.magma_disk.specs.Moments.{Throughout}
 use Rattle.vb_log.specs.Content.{Content}
 use Rattle.copy_model.specs.declared.outcome.Outcome.{Outcome}
 use Rattle.copy_model.specs.declared.outcome.Outcome.TheVariants as outcomes
+use Rattle.copy_model.specs.declared.outcome.VbFault.{VbFault}
+use Rattle.copy_model.specs.declared.outcome.VbFault.TheVariants as faults
 use Rattle.copy_model.specs.Copies.{Copy, Luck, lacks_memory}
 use Rattle.copy_model.specs.Laying.{is_faulted}
 use Rattle.vb_core.specs.Flat.{size_of_write}
@@ -49,3 +51,16 @@ pub record Rests {D : Type 0} (states : D → List Device) (old new : ShownVb D)
 abbrev pub IsOutcome : Outcome → Type 0
 IsOutcome (outcomes.Reply reply) = IsReply reply
 IsOutcome (outcomes.Parked ticket) = IsReply ticket.reply
+
+-- an outcome that is a reply at once
+abbrev pub IsReplied : Outcome → Type 0
+IsReplied (outcomes.Reply reply) = Unit {0}
+IsReplied (outcomes.Parked ticket) = ⊥
+
+-- why a flush isn't done: it promotes nothing
+abbrev pub IsFlushFault : VbFault → Type 0
+IsFlushFault faults.DiskFault = Unit {0}
+IsFlushFault (faults.Full needed free) = Unit {0}
+IsFlushFault faults.Dead = Unit {0}
+IsFlushFault (faults.Promote why) = ⊥
+IsFlushFault faults.NoMemory = Unit {0}

@@ -18,7 +18,7 @@ ghost use Rattle.vb_log.specs.Content as contents;
 ghost use Rattle.vb_log.specs.Content.{prepare_of};
 ghost use Rattle.vb_log.specs.Logs.{folds};
 ghost use Rattle.replica_core.specs.Terms.{is_active};
-ghost use Rattle.vb_core.specs.Coming.{Comes, ComesWell, Rests, IsOutcome};
+ghost use Rattle.vb_core.specs.Coming.{Comes, ComesWell, Rests, IsOutcome, IsReplied};
 ghost use Rattle.vb_core.specs.Flat.{flat};
 ghost use Rattle.vb_core.specs.Making.{early_refusal, IsPlanned};
 ghost use Rattle.vb_core.specs.Means.{IsCopy, Lives};
@@ -42,7 +42,7 @@ use vb_log::{Entry, Pending, greatest_cas, manifest, prepares, rising};
 impl<D: Disk> Vb<D> {
     /// Answers a request on documents or the manifest at a moment, in milliseconds since 1970. Where memory is refused, or
     /// the next CAS passes 64 bits, the reply is `ENOMEM` and the vbucket is as before. A request with a durability level is
-    /// refused with `NOT_SUPPORTED`. `ETMPFAIL` comes only where the disk's count of faults rose: the document couldn't be
+    /// refused with `NOT_SUPPORTED`, so no request waits yet. `ETMPFAIL` comes only where the disk's count of faults rose: the document couldn't be
     /// read, and nothing changed; or the log couldn't be put on disk before the change, and the copy is dead.
     pub fn request(&mut self, request: &Request, now: u64) -> Outcome
         requires request { IsRequest request.now }
@@ -53,6 +53,7 @@ impl<D: Disk> Vb<D> {
         ensures level { is_some request.now.durability ≡ true
             → (result ≡ refusal request.now status.NOT_SUPPORTED) × (self.new ≡ self.old) }
         ensures fits { IsOutcome result }
+        ensures replied { IsReplied result }
         ensures counts { CountsStore ⊥ (D.counts self.old.store.disk) (D.counts self.new.store.disk) }
     {
         if request.durability.is_some() {
@@ -74,6 +75,7 @@ impl<D: Disk> Vb<D> {
     fn refuse(&self, request: &Request, why: Status) -> Outcome
         ensures refusal { result ≡ refusal request.now why }
         ensures fits { IsOutcome result }
+        ensures replied { IsReplied result }
     {
         Outcome::Reply(refusal(self.alloc, request.opcode, request.opaque, why))
     }

@@ -15,7 +15,7 @@ ghost use Rattle.vb_log.specs.Content as contents;
 ghost use Rattle.vb_log.specs.Held.{item_weight};
 ghost use Rattle.vb_log.specs.Logs.{folds};
 ghost use Rattle.vb_log.specs.Stored.{IsStorable};
-ghost use Rattle.vb_core.specs.Coming.{Comes, Rests};
+ghost use Rattle.vb_core.specs.Coming.{Comes, Rests, IsFlushFault};
 ghost use Rattle.vb_core.specs.Flat.{flat, tail_of};
 ghost use Rattle.vb_core.specs.Means.{IsCopy, Stands};
 ghost use Rattle.vb_core.specs.Noting.{forgotten, stopped_at, Notes, PutsDown, fault_told};
@@ -52,6 +52,7 @@ impl<D: Disk> Vb<D> {
     pub fn flush(&mut self) -> Result<u64, VbFault>
         ensures flushes { (copy : Copy contents.Content ℕ) → IsCopy D.states self.old copy
             → Comes D.states D.counts copy (λ luck. flushes folds (flat copy.chain) luck copy) self.old self.new result }
+        ensures why { IfErr result IsFlushFault }
         ensures dead { (result ≡ Err VbFault.Dead) ↔ (self.old.core.role ≡ roles.Dead) }
         ensures counts { CountsStore (IsErrOf result VbFault.DiskFault) (D.counts self.old.store.disk) (D.counts self.new.store.disk) }
     {
@@ -207,7 +208,8 @@ fn forget(flushed: &mut Flushed, items: &[&Item])
 
 /// The fault of a vbucket whose store has one.
 fn vb_fault(fault: StoreFault) -> VbFault
-    ensures { result ≡ fault_told fault }
+    ensures told { result ≡ fault_told fault }
+    ensures why { IsFlushFault result }
 {
     match fault {
         StoreFault::DiskFault => VbFault::DiskFault,

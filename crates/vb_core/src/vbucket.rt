@@ -1,7 +1,12 @@
-ghost use Rattle.std.specs.Prelude.{◌≡◌, option_map, IsTrue};
+ghost use Rattle.std.specs.Prelude.{◌≡◌, ℕ, List, option_map, IsTrue};
+ghost use Rattle.copy_model.specs.Copies.{Copy};
+ghost use Rattle.magma_disk.specs.Calls.{MayLeave};
 ghost use Rattle.magma_disk.specs.Counting.{CountsPlan};
 ghost use Rattle.magma_disk.specs.Plan.{planned};
 ghost use Rattle.manifest_rules.specs.State.{is_kept};
+ghost use Rattle.vb_core.specs.Means.{IsCopy};
+ghost use Rattle.vb_core.specs.Pairs.{HoldsOf};
+ghost use Rattle.vb_log.specs.Content as contents;
 
 use crate::flushed::Flushed;
 use magma_disk::Disk;
@@ -82,9 +87,11 @@ impl<D: Disk> Vb<D> {
         self.store.plan_fault(after, lasting);
     }
 
-    /// The disk.
+    /// The disk. A crash leaves on it a pair that the vbucket's copy may hold.
     pub fn finish(self) -> D
-        ensures { result ≡ self.store.disk }
+        ensures disk { result ≡ self.store.disk }
+        ensures leaves { (copy : Copy contents.Content ℕ) → IsCopy D.states self copy → (image : List ℕ) →
+            MayLeave (D.states result) image → HoldsOf copy image }
     {
         let Vb { store, .. } = self;
         store.finish()
