@@ -8,5 +8,5 @@ returns-in-Ok-clause-puts g c = λ copy s. puts_first g.D.Disk.states g.D.Disk.c
 
 pub returns-in-Err-clause-puts : goal.returns-in-Err-clause-puts
 returns-in-Err-clause-puts g c = λ copy s.
-    subst (λ (d : g.row.D.Denot). PutsFirst g.D.Disk.states (g.D.Disk.states c.args.vb.store.disk) copy (Err c.in-Err.fault) (Some d)) (sym c.finish.ensures)
+    subst (λ (d : g.row.D.Denot). PutsFirst g.D.Disk.states (g.D.Disk.states c.args.vb.store.disk) copy (Err c.in-Err.fault) (Some d)) (sym c.finish.ensures.disk)
     (puts_first g.D.Disk.states g.D.Disk.counts copy c.args.vb c.put_log.new.self (Err c.in-Err.fault) (c.in-Err.ensures.puts copy s))

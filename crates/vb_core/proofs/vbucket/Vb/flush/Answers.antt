@@ -44,7 +44,7 @@ returns-clause-flushes g c = λ copy is.
     let told : put_told new.core.length r ≡ c.match-put_log.result =
     elim c.match-put_log.branch [
       | in-Ok w ↦ ap (put_told new.core.length) w.in-Ok.is ∙ ap ok (sym (ap (λ (v : V). v.core.length) c.self-2.view_is)) ∙ sym w.result-is
-      | in-Err w ↦ ap (put_told new.core.length) w.in-Err.is ∙ ap err (sym w.vb_fault.ensures) ∙ sym w.result-is
+      | in-Err w ↦ ap (put_told new.core.length) w.in-Err.is ∙ ap err (sym w.vb_fault.ensures.told) ∙ sym w.result-is
     ] in
     subst (λ (t : Result ℕ VbFault). Comes states counts copy (λ luck. flushes folds (flat copy.chain) luck copy) old new t) told
     (flush_comes states counts copy old new r l fit c.put_log.ensures.stays (c.put_log.ensures.puts copy l.stands))
