@@ -72,7 +72,7 @@ none_above {X} k (e ∷ es) h =
     go true is less rest = absurd (let z : Less ≡ Equal = sym less ∙ is_equal (key_cmp k e.0) is in cc)
     go false is less rest = rest
 
-sorted_once : {X : Type 0} (es : List (DocKey × X)) → T (is_sorted key_cmp es) → StandOnce es
+pub sorted_once : {X : Type 0} (es : List (DocKey × X)) → T (is_sorted key_cmp es) → StandOnce es
 sorted_once [] h = tt
 sorted_once (e ∷ es) h = (none_above e.0 es (first (below_all key_cmp e.0 es) (is_sorted key_cmp es) h), sorted_once es (second (below_all key_cmp e.0 es) (is_sorted key_cmp es) h))
 

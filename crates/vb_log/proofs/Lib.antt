@@ -24,3 +24,5 @@ pub mod WholeBytes
 pub mod Behind
 pub mod Joined
 pub mod Positions
+pub mod Apart
+pub mod Staying

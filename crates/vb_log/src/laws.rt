@@ -1,10 +1,10 @@
 //! Laws of logs and of the bytes of entries. Each function does nothing; its contract is the law.
 
-ghost use Rattle.std.specs.Prelude.{◌≡◌, ◌++◌, ℕ, List, length};
+ghost use Rattle.std.specs.Prelude.{◌≡◌, ◌<◌, ◌++◌, ℕ, true, List, length};
 ghost use Rattle.vb_log.specs.declared.entry.Entry.{Entry};
 ghost use Rattle.vb_log.specs.declared.entry.Entry.TheVariants as entries;
 ghost use Rattle.vb_log.specs.declared.entry.Pending.{Pending};
-ghost use Rattle.vb_log.specs.Content.{Content, content_of};
+ghost use Rattle.vb_log.specs.Content.{Content, with_entry, content_of};
 ghost use Rattle.vb_log.specs.Logs.{whole_logs, folds, IsFaithful};
 ghost use Rattle.vb_log.specs.Parts.{JoinsBack};
 ghost use Rattle.vb_log.specs.Laws.{WaitsAsPrepared, PrepareShowsNothing, PrepareWaits};
@@ -13,10 +13,11 @@ ghost use Rattle.vb_log.specs.Laws.{AbortShowsNothing, DroppedHasNothing, Manife
 ghost use Rattle.vb_log.specs.Laws.{MutationCounts, DeletionCounts, PrepareCounts};
 ghost use Rattle.vb_log.specs.Layout.{Fits};
 ghost use Rattle.vb_log.specs.Spelling.{IsAllowed, IsSpelled, spelling, entry_layout};
-ghost use Rattle.vb_log.specs.Sizes.{entry_length};
+ghost use Rattle.vb_log.specs.Sizes.{entry_length, can_add};
 ghost use Rattle.vb_log.specs.Prepares.{IsAllowedPending, pending_bytes};
-ghost use Rattle.vb_log.specs.Contents.{HasBytes, IsContent, content_bytes, content_layout};
+ghost use Rattle.vb_log.specs.Contents.{HasBytes, IsContent, IsWhole, content_bytes, content_layout};
 ghost use Rattle.vb_log.specs.Faults.{BreaksAt, PendingBreaksAt, ContentBreaksAt};
+ghost use Rattle.vb_log.specs.declared.limits.TheConstants.{GREATEST_POSITION};
 
 /// What of a log's content lies behind a position, joined to what the log comes to up to there, is
 /// what the whole log comes to.
@@ -118,4 +119,12 @@ pub fn content_has_one_spelling()
         → ContentBreaksAt bytes first → ContentBreaksAt bytes second → first ≡ second }
     ensures none { (bytes : List ℕ) (place : ℕ) (c : Content)
         → ContentBreaksAt bytes place → IsContent c bytes → ⊥ }
+{}
+
+/// A whole content is whole with one more entry that the layout allows and that can be added, as long
+/// as positions last.
+pub fn contents_stay_whole()
+    ensures { (c : Content) (e : Entry)
+        → IsWhole c → IsAllowed e → can_add c e ≡ true → c.length < GREATEST_POSITION
+        → IsWhole (with_entry c e) }
 {}

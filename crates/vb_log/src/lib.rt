@@ -37,7 +37,8 @@
 //!
 //! A content is whole, and has bytes, where its parts keep their limits, no two changes that wait
 //! name one key, no two of all its items and changes that wait were made by one entry, and it isn't
-//! too large (`specs/Contents.antt`, `IsWhole`).
+//! too large (`specs/Contents.antt`, `IsWhole`); with an entry that can be added it is whole again
+//! (`contents_stay_whole`).
 //!
 //! - `content_into` appends the bytes of a whole content, and `read_content` reads it back; bytes of
 //!   which each field is as it has to be, but whose content isn't whole, are no content's.
@@ -232,9 +233,10 @@ pub use joining::{Difference, difference_from, join};
 pub use judging::{allowed, size_after};
 pub use laws::{
     abort_only_ends_its_prepare, changes_count_once, commit_shows_what_was_prepared,
-    content_has_one_spelling, entry_has_one_spelling, folds_follow_their_entries,
-    length_counts_entries, manifest_takes_what_it_drops, one_broken_place, parts_join_back,
-    pending_has_one_spelling, prepare_shows_nothing, spelling_has_its_length,
+    content_has_one_spelling, contents_stay_whole, entry_has_one_spelling,
+    folds_follow_their_entries, length_counts_entries, manifest_takes_what_it_drops,
+    one_broken_place, parts_join_back, pending_has_one_spelling, prepare_shows_nothing,
+    spelling_has_its_length,
 };
 pub use limits::{
     CONTENT_LIMIT, GREATEST_CAS, GREATEST_LEVEL, GREATEST_POSITION, ITEM_OVERHEAD, LOG_LIMIT,
