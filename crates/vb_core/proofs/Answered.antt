@@ -396,6 +396,8 @@ module _ {D : Type 0} (states : D → List Device) (counts : D → Counts) where
           is_open = record { on_disk = s.is_open.on_disk; meta = s.is_open.meta; spots = s.is_open.spots };
           pair = s.pair;
           torn = s.torn;
+          whole = s.whole;
+          told = s.told;
           shows = s.shows;
           made = s.made;
           on_disk = s.on_disk;

@@ -1,9 +1,12 @@
 -- What a change comes to that is made, at once or behind a flush, or refused.
-use Rattle.std.specs.Prelude.{◌≡◌, ◌<◌, ℕ, ◌+◌, nat_le, nat_lt, Bool, true, false, ◌||◌, List, [], Option, Ok, Err, if◌then◌else◌, refl}
+use Rattle.std.specs.Prelude.{◌≡◌, ◌<◌, ◌≤◌, ℕ, ◌+◌, nat_le, nat_lt, Bool, true, false, ◌||◌, List, [], length, Option, Ok, Err, if◌then◌else◌, refl}
 use Rattle.std.proofs.Common.{inl, inr, sym, ◌∙◌, ap, subst, arith}
+use Rattle.std.proofs.lemmas.Bool.{and_from, le-leb}
+use Rattle.std.proofs.lemmas.Bool.Decides.{nat_tests}
 use Rattle.kv_request.specs.declared.request.Request.{Request}
 use Rattle.std.specs.FinMap as map
 use Rattle.doc_model.specs.declared.key.DocKey.{DocKey}
+use Rattle.doc_model.specs.declared.document.Item.{Item}
 use Rattle.doc_model.specs.Keys.{key_cmp}
 use Rattle.doc_model.specs.declared.status.TheConstants.Status as status
 use Rattle.replica_core.specs.declared.copy.CopyCore.{CopyCore}
@@ -14,10 +17,15 @@ use Rattle.magma_disk.specs.Device.{Device}
 use Rattle.magma_store.specs.Counting.{CountsStore}
 use Rattle.magma_store.specs.declared.fault.StoreFault.TheVariants as fault
 use Rattle.vb_log.specs.declared.entry.Entry.{Entry}
-use Rattle.vb_log.specs.Content.{Content, with_entry}
+use Rattle.vb_log.specs.declared.entry.Entry.TheVariants as entries
+use Rattle.vb_log.specs.declared.entry.Pending.{Pending}
+use Rattle.vb_log.specs.Content.{Content, with_entry, allowed}
+use Rattle.vb_log.specs.Contents.{IsWhole}
 use Rattle.vb_log.specs.Logs.{folds}
-use Rattle.vb_log.specs.Sizes.{size_after, entry_length}
-use Rattle.vb_log.specs.declared.limits.TheConstants.{CONTENT_LIMIT, GREATEST_POSITION}
+use Rattle.vb_log.specs.Sizes.{size_after, is_within, entry_length}
+use Rattle.vb_log.specs.Spelling.{IsAllowed}
+use Rattle.vb_log.specs.declared.limits.TheConstants.{CONTENT_LIMIT, SUM_LIMIT, GREATEST_POSITION}
+use Rattle.vb_log.proofs.Staying.{stays_whole}
 use Rattle.copy_model.specs.declared.outcome.Outcome.{Outcome}
 use Rattle.copy_model.specs.Copies.{Copy, LayoutKind, Luck, Fine}
 use Rattle.copy_model.specs.Disk.{Put, Done, NoRoom, Failed, put_then, pair_at, on_disk, write_log, after_flush, must_flush, flushing}
@@ -147,6 +155,24 @@ write_done y luck copy after e = go _ _ _ _ _ _ _ _ e
     go false b true x z w n f e = absurd (cc)
     go false b false x z w n f e = cc
 
+-- ---- what may be added
+
+record IsNotMuch (c : Content) (e : Entry) : Type 0 where
+  log : c.length < REQUEST_LIMIT
+  size : size_after c e ≤ CONTENT_LIMIT
+
+not_much : (c : Content) (cas : ℕ) (e : Entry) → is_too_much c cas e ≡ false → IsNotMuch c e
+not_much c cas e small = record { log = grind (arith, nat_tests, small); size = grind (arith, nat_tests, small) }
+
+-- whether an entry may be added doesn't go by the items
+pub allowed_alike : (c : Content) (items : map.FinMap key_cmp Item) (e : Entry) → allowed c e ≡ allowed (record c { items = items }) e
+allowed_alike c items (entries.Mutation key doc) = refl
+allowed_alike c items (entries.Deletion key cas) = refl
+allowed_alike c items (entries.Prepare key what level) = refl
+allowed_alike c items (entries.Commit of) = refl
+allowed_alike c items (entries.Abort of) = refl
+allowed_alike c items (entries.Manifest text) = refl
+
 -- ---- what putting the log came to
 
 module _ {D : Type 0} (states : D → List Device) where
@@ -170,6 +196,22 @@ module _ {D : Type 0} (states : D → List Device) where
   put_failed copy old new (Failed after) h = (after, refl, h.0, h.1)
 
   -- ---- an entry is added to a copy that may have put its log on disk
+
+  -- what is added leaves a content that has bytes
+  whole_entry : (vb : ShownVb D) (copy : Copy Content ℕ) (cas : ℕ) (e : Entry) (covered : Option DocKey) (dropped : List ℕ) → Lives states vb copy
+      → Covers vb.recent.manifest e covered dropped → IsAllowed e → allowed vb.recent e ≡ true → is_too_much copy.log cas e ≡ false
+      → IsWhole (with_entry copy.log e)
+  whole_entry vb copy cas e covered dropped l c may can small =
+      let small = not_much copy.log cas e small in
+      let covers = subst (λ (x : Content). Covers x.manifest e covered dropped) l.stands.shows.others c in
+      let on_log : allowed copy.log e ≡ true = allowed_alike copy.log vb.recent.items e ∙ ap (λ (x : Content). allowed x e) (sym l.stands.shows.others) ∙ can in
+      let after = follows_entry copy.log e covered dropped covers in
+      let none : (with_entry copy.log e).prepares ≡ [] = after.prepares ∙ l.none_waits in
+      let within = and_from (nat_le (size_after copy.log e) CONTENT_LIMIT) (nat_le ((with_entry copy.log e).length + length (with_entry copy.log e).prepares) SUM_LIMIT)
+      (le-leb (size_after copy.log e) CONTENT_LIMIT small.size)
+      (le-leb ((with_entry copy.log e).length + length (with_entry copy.log e).prepares) SUM_LIMIT
+      (let n = ap (λ (ps : List Pending). length ps) none in let m = after.length in let k = small.log in omega arith)) in
+      stays_whole copy.log e l.stands.whole may (and_from (allowed copy.log e) (is_within (with_entry copy.log e)) on_log within) (let k = small.log in omega arith)
 
   grown_position : (vb : ShownVb D) (copy : Copy Content ℕ) (e : Entry) (covered : Option DocKey) (dropped : List ℕ)
       → Covers vb.recent.manifest e covered dropped → Lives states vb copy
@@ -207,9 +249,9 @@ module _ {D : Type 0} (states : D → List Device) where
   module _ (counts : D → Counts) where
     pub adds_at_once : (copy : Copy Content ℕ) (cas : ℕ) (e : Entry) (covered : Option DocKey) (dropped : List ℕ) (old : ShownVb D)
         → IsAtHome old → Lives states old copy → Covers old.recent.manifest e covered dropped
-        → is_too_much copy.log cas e ≡ false → must_flush copy ≡ false
+        → IsAllowed e → allowed old.recent e ≡ true → is_too_much copy.log cas e ≡ false → must_flush copy ≡ false
         → Makes states counts copy cas e old (grown e covered dropped old) made.Done
-    adds_at_once copy cas e covered dropped old home l c small later = record {
+    adds_at_once copy cas e covered dropped old home l c may can small later = record {
       before = copy;
       position = grown_position old copy e covered dropped c l;
       term = live_term old copy l;
@@ -219,7 +261,7 @@ module _ {D : Type 0} (states : D → List Device) where
           after = added folds e copy;
           goes = at_once (flat copy.chain) (luck_of Fine copy) request cas e (λ c. (added folds e c, reply c)) copy small later;
           layout = refl;
-          is = inl (lives_entry states old copy e covered dropped c l);
+          is = inl (lives_entry states old copy e covered dropped c (whole_entry old copy cas e covered dropped l c may can small) l);
           cause = λ z. absurd (let f : false ≡ true = z in cc);
           leaves = rests_leaves states old old copy home (inl l) (rests_none states old);
         };
@@ -229,14 +271,15 @@ module _ {D : Type 0} (states : D → List Device) where
 
     pub adds_behind : (copy : Copy Content ℕ) (cas : ℕ) (e : Entry) (covered : Option DocKey) (dropped : List ℕ) (old mid : ShownVb D)
         (u : Unit {0})
-        → Lives states old copy → Puts states counts copy old mid
-        (Ok u) → Covers mid.recent.manifest e covered dropped → IsFlushedFirst copy cas e
+        → Lives states old copy → Puts states counts copy old mid (Ok u) → Covers mid.recent.manifest e covered dropped
+        → IsAllowed e → allowed mid.recent e ≡ true → IsFlushedFirst copy cas e
         → Makes states counts copy cas e old (grown e covered dropped mid) made.Done
-    adds_behind copy cas e covered dropped old mid u l p c first =
+    adds_behind copy cas e covered dropped old mid u l p c may can first =
         let w = write_log folds (flat copy.chain) p.luck copy.accepted copy in
         let done = put_done copy old mid w u p.goes in
         let after = done.0 in
         let lives = put_lives (flat copy.chain) p.luck copy after old mid done.1 l done.2 in
+        let small = ap (λ (c : Copy Content ℕ). is_too_much c.log cas e) (sym (write_done (flat copy.chain) p.luck copy after done.1)) ∙ first.small in
         record {
           before = after;
           position = grown_position mid after e covered dropped c lives;
@@ -248,7 +291,7 @@ module _ {D : Type 0} (states : D → List Device) where
               goes = flushed_then (flat copy.chain) p.luck request cas e (λ c. (added folds e c, reply c)) copy (Done after) first done.1
                   ∙ ap (λ (c : Copy Content ℕ). (added folds e c, reply c)) (flush_rests after lives.stands.active lives.none_waits);
               layout = p.layout;
-              is = inl (lives_entry states mid after e covered dropped c lives);
+              is = inl (lives_entry states mid after e covered dropped c (whole_entry mid after cas e covered dropped lives c may can small) lives);
               cause = p.cause;
               leaves = done.3;
             };

@@ -131,6 +131,8 @@ fresh_stands states store number content is_anew c core recent flushed w m b = r
   is_open = b.is_open;
   pair = b.pair;
   torn = b.torn;
+  whole = subst IsWhole b.log_is w;
+  told = λ e. absurd (let f = b.pair.accepted_is in let g = ap (λ (m : Meta). m.accepted) b.is_open.meta in let h = b.accepted_is in omega (arith, e, f, g, h));
   shows = subst (λ (l : Content). Shows recent flushed (beneath is_anew l.manifest b.held.items) l) b.log_is (fresh_shows store.meta b.held content is_anew core recent flushed w b.from m);
   made = subst (λ (l : Content). MadeUpTo l.length l.items) b.log_is (made_whole content w);
   on_disk = made_below b.held content is_anew w b.from;

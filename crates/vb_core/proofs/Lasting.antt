@@ -24,6 +24,7 @@ use Rattle.vb_log.specs.declared.entry.Entry.{Entry}
 use Rattle.vb_log.specs.declared.entry.Entry.TheVariants as entries
 use Rattle.vb_log.specs.declared.limits.TheConstants.{GREATEST_POSITION}
 use Rattle.vb_log.specs.Content.{Content, numbered, item_made, one_longer, without, with_step, with_entry}
+use Rattle.vb_log.specs.Contents.{IsWhole}
 use Rattle.vb_log.specs.Held.{waiting_size}
 use Rattle.vb_log.specs.Prepares.{IsAllowedPending}
 use Rattle.vb_log.specs.Logs.{folds}
@@ -348,9 +349,9 @@ behind_entry c after e position f within all q item found =
 
 module _ {D : Type 0} (states : D → List Device) where
   pub stands_entry : (vb : ShownVb D) (copy : Copy Content ℕ) (e : Entry) (covered : Option DocKey) (dropped : List ℕ)
-      → Covers vb.recent.manifest e covered dropped
+      → Covers vb.recent.manifest e covered dropped → IsWhole (with_entry copy.log e)
       → Stands states vb copy → Stands states (grown e covered dropped vb) (added folds e copy)
-  stands_entry vb copy e covered dropped c s =
+  stands_entry vb copy e covered dropped c whole s =
       let others = s.shows.others in
       let log = copy.log in
       let shows = shows_entry vb.recent log vb.flushed vb.is_anew s.held.items e covered dropped s.shows c in
@@ -370,6 +371,8 @@ module _ {D : Type 0} (states : D → List Device) where
         is_open = s.is_open;
         pair = s.pair;
         torn = s.torn;
+        whole = whole;
+        told = s.told;
         shows = shows;
         made = made_entry log (with_entry log e) e on_log s.made;
         on_disk = s.on_disk;
@@ -383,12 +386,12 @@ module _ {D : Type 0} (states : D → List Device) where
       }
 
   pub lives_entry : (vb : ShownVb D) (copy : Copy Content ℕ) (e : Entry) (covered : Option DocKey) (dropped : List ℕ)
-      → Covers vb.recent.manifest e covered dropped
+      → Covers vb.recent.manifest e covered dropped → IsWhole (with_entry copy.log e)
       → Lives states vb copy → Lives states (grown e covered dropped vb) (added folds e copy)
-  lives_entry vb copy e covered dropped c l =
+  lives_entry vb copy e covered dropped c whole l =
       let covers = subst (λ (x : Content). Covers x.manifest e covered dropped) l.stands.shows.others c in
       record {
-        stands = stands_entry vb copy e covered dropped c l.stands;
+        stands = stands_entry vb copy e covered dropped c whole l.stands;
         none_waits = (follows_entry copy.log e covered dropped covers).prepares ∙ l.none_waits;
         tickets = l.tickets;
         deadlines = l.deadlines;

@@ -1,9 +1,4 @@
-pub mod Keys
-pub mod Planned
-pub mod Small
 pub mod Manifests
-pub mod Taken
-pub mod Runs
 pub mod Laid
 pub mod Resting
 pub mod Batching
@@ -31,6 +26,3 @@ pub mod Brought
 pub mod Answered
 pub mod Entered
 pub mod Installed
-pub mod Historic
-pub mod Numbers
-pub mod Remembered

@@ -32,7 +32,7 @@ use Rattle.vb_core.specs.Coming.{next_layout, Leaves, Rests}
 use Rattle.vb_core.specs.Flat.{flat, size_of_write, tail_of}
 use Rattle.vb_core.specs.Means.{Stands, Stopped, Shows, beneath, MadeUpTo}
 use Rattle.vb_core.specs.Noting.{IsBatchOf, IsBegun, IsPutDown, HasNoRoom, IsStopped}
-use Rattle.vb_core.specs.Pairs.{IsPair, HoldsPair, HoldsOf}
+use Rattle.vb_core.specs.Pairs.{IsTail, IsPair, HoldsPair, HoldsOf}
 use Rattle.vb_core.specs.Putting.{IsMetaOf, IsPut, Puts}
 use Rattle.vb_core.specs.Shown.{ShownVb, IsFit}
 use Rattle.vb_core.proofs.Batching.{items_are, size_is, log_is, shows_after}
@@ -79,6 +79,16 @@ whole_items states vb copy meta batch p =
     log_is vb.is_anew vb.recent copy.log vb.flushed s.held.items batch s.shows p.of.stand p.of.by
     ∙ ap (λ (m : Catalog). with_items (beneath vb.is_anew m s.held.items) batch) (sym (manifest_is states vb copy s))
 
+-- the manifest of the log, and what waits, stand beside the items
+new_tail : {D : Type 0} (states : D → List Device) (vb : ShownVb D) (copy : Copy Content ℕ) (meta : Meta) (batch : List Item) (p : IsPutting states vb copy meta batch) → IsTail meta.tail copy.log.manifest copy.log.prepares
+new_tail states vb copy meta batch p =
+    let s = p.stands in
+    record {
+      kept = subst (λ (c : Catalog). IsTrue (is_kept c)) (manifest_is states vb copy s) p.of.is.kept;
+      allowed = subst (λ (ps : List Pending). IsAllowedPending ps) (ap (λ (c : Content). c.prepares) s.shows.others) p.fit.waiting;
+      spelled = tail_is states vb copy meta batch p;
+    }
+
 new_pair : {D : Type 0} (states : D → List Device) (vb : ShownVb D) (copy : Copy Content ℕ) (meta : Meta) (batch : List Item) (p : IsPutting states vb copy meta batch) → IsPair (new_held vb meta batch p.stands.held) (next_layout copy) (next_pair copy)
 new_pair states vb copy meta batch p =
     let s = p.stands in
@@ -90,11 +100,7 @@ new_pair states vb copy meta batch p =
       incarnation_is = sym (m.incarnation_is ∙ ap (λ (c : CopyCore). c.incarnation) core);
       layout_is = refl;
       items_are = whole_items states vb copy meta batch p;
-      tail_tells = inl (record {
-        kept = subst (λ (c : Catalog). IsTrue (is_kept c)) (manifest_is states vb copy s) p.of.is.kept;
-        allowed = subst (λ (ps : List Pending). IsAllowedPending ps) (ap (λ (c : Content). c.prepares) s.shows.others) p.fit.waiting;
-        spelled = tail_is states vb copy meta batch p;
-      });
+      tail_tells = inl (new_tail states vb copy meta batch p);
       cas_is = sym (m.cas_is ∙ ap (λ (c : Content). c.greatest_cas) s.shows.others);
       length_is = sym (m.length_is ∙ ap (λ (c : Content). c.length) s.shows.others);
     }
@@ -189,6 +195,8 @@ done_stands states vb copy meta store flushed d p =
       is_open = d.done s.held s.is_open;
       pair = subst (λ l. IsPair (new_held vb meta d.batch s.held) l (next_pair copy)) (sym (d.layout ∙ new_layout states vb copy meta d.batch p)) (new_pair states vb copy meta d.batch p);
       torn = s.torn;
+      whole = s.whole;
+      told = λ _. new_tail states vb copy meta d.batch p;
       shows =
           subst (λ (m : map.FinMap key_cmp Item). Shows (record vb.recent { items = map.empty }) flushed (beneath false copy.log.manifest m) copy.log) items
           (shows_after vb.is_anew vb.recent copy.log vb.flushed flushed s.held.items d.batch s.shows p.of.stand p.of.by

@@ -66,6 +66,8 @@ module _ {D : Type 0} (states : D → List Device) where
     };
     pair = s.pair;
     torn = s.torn;
+    whole = s.whole;
+    told = s.told;
     shows = s.shows;
     made = s.made;
     on_disk = s.on_disk;

@@ -14,7 +14,9 @@ use Rattle.vb_log.specs.Content.{Content}
 use Rattle.copy_model.specs.Copies.{Copy}
 use Rattle.vb_core.specs.Coming.{Leaves, Rests}
 use Rattle.vb_core.specs.Means.{Stands, Lives, Stopped, IsCopy}
+use Rattle.vb_core.specs.Openings.{IsAllOnDisk, HoldsSound}
 use Rattle.vb_core.specs.Pairs.{IsPair, HoldsOf}
+use Rattle.vb_log.specs.Contents.{IsWhole}
 use Rattle.vb_core.specs.Shown.{ShownVb, IsFit}
 
 -- ---- moments
@@ -59,6 +61,8 @@ rests_stands {D} states old new copy r s =
       is_open = rests_open states s.held old.store new.store.disk r.same s.is_open;
       pair = s.pair;
       torn = s.torn;
+      whole = s.whole;
+      told = s.told;
       shows = s.shows;
       made = s.made;
       on_disk = s.on_disk;
@@ -117,6 +121,21 @@ store_holds states vb copy s image own is =
 -- what a crash leaves of an active copy
 pub stands_leaves : {D : Type 0} (states : D → List Device) (vb : ShownVb D) (copy : Copy Content ℕ) → Stands states vb copy → IsOwnOf vb.store.meta copy → (image : List ℕ) → MayLeave (states vb.store.disk) image → HoldsOf copy image
 stands_leaves states vb copy s own image left = store_holds states vb copy s image own (survives s.held vb.store.layout (states vb.store.disk) image s.is_open.on_disk left)
+
+-- and of one whose log is all on disk
+pub all_leaves : {D : Type 0} (states : D → List Device) (vb : ShownVb D) (copy : Copy Content ℕ) → IsFit vb.store.meta vb.core vb.recent vb.flushed vb.seen → Lives states vb copy → IsAllOnDisk copy → (image : List ℕ) → MayLeave (states vb.store.disk) image → HoldsSound copy image
+all_leaves states vb copy fit l all image left =
+    let s = l.stands in
+    let own = own_of states vb copy fit s in
+    let layout : vb.store.layout ≡ copy.disk.layout = sym s.pair.layout_is in
+    record {
+      held = s.held;
+      is_store = subst (λ l. IsStore s.held l image) layout (survives s.held vb.store.layout (states vb.store.disk) image s.is_open.on_disk left);
+      pair = subst (λ l. IsPair s.held l copy.disk) layout s.pair;
+      chain_own = ap (λ (m : Meta). m.chain) (sym s.is_open.meta) ∙ own.chain;
+      place_own = ap (λ (m : Meta). m.place) (sym s.is_open.meta) ∙ own.place;
+      sound = record { whole = subst IsWhole (sym all.log) s.whole; told = inr (s.told all.accepted) };
+    }
 
 pub copy_leaves : {D : Type 0} (states : D → List Device) (vb : ShownVb D) (copy : Copy Content ℕ) → IsFit vb.store.meta vb.core vb.recent vb.flushed vb.seen → IsCopy states vb copy → (image : List ℕ) → MayLeave (states vb.store.disk) image → HoldsOf copy image
 copy_leaves states vb copy fit (inl l) image left = stands_leaves states vb copy l.stands (own_of states vb copy fit l.stands) image left

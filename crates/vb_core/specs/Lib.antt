@@ -1,7 +1,3 @@
-pub mod Log
-pub mod Step
-pub mod Changing
-pub mod Runs
 pub mod Flat
 pub mod Shown
 pub mod Pairs
@@ -14,4 +10,3 @@ pub mod Noting
 pub mod Beginning
 pub mod Covering
 pub mod Plans
-pub mod Histories

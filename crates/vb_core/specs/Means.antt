@@ -6,6 +6,7 @@ use Rattle.doc_model.specs.declared.document.Item.{Item}
 use Rattle.doc_model.specs.Keys.{key_cmp}
 use Rattle.manifest_rules.specs.Catalog.{Catalog}
 use Rattle.vb_log.specs.Content.{Content}
+use Rattle.vb_log.specs.Contents.{IsWhole}
 use Rattle.vb_log.specs.Held.{item_weight}
 use Rattle.vb_log.specs.Logs.{folds}
 use Rattle.copy_model.specs.Copies.{Copy}
@@ -15,7 +16,7 @@ use Rattle.magma_disk.specs.Device.{Device}
 use Rattle.magma_disk.specs.Calls.{MayLeave}
 use Rattle.magma_store.specs.Held.{Held, items_left}
 use Rattle.magma_store.specs.Store.{IsOpen}
-use Rattle.vb_core.specs.Pairs.{IsPair, HoldsOf}
+use Rattle.vb_core.specs.Pairs.{IsPair, IsTail, HoldsOf}
 use Rattle.vb_core.specs.Shown.{ShownVb}
 
 -- ---- what is in memory over what is on disk
@@ -67,6 +68,9 @@ pub record Stands {D : Type 0} (states : D → List Device) (vb : ShownVb D) (co
   pub is_open : IsOpen states held vb.store
   pub pair : IsPair held vb.store.layout copy.disk
   pub torn : copy.torn ≡ None
+  -- the log comes to a content that has bytes, and the term's log on disk has its manifest there
+  pub whole : IsWhole copy.log
+  pub told : copy.disk.accepted ≡ copy.accepted → IsTail held.meta.tail copy.disk.log.manifest copy.disk.log.prepares
   -- the log is what was changed of late over what is on disk
   pub shows : Shows vb.recent vb.flushed (beneath vb.is_anew copy.log.manifest held.items) copy.log
   pub made : MadeUpTo copy.log.length copy.log.items

@@ -39,6 +39,20 @@ pub record IsSound (held : Held) (d : Pair Content ℕ) : Type 0 where
   pub whole : IsWhole d.log
   pub told : (held.meta.tail ≡ []) ⊎ IsTail held.meta.tail d.log.manifest d.log.prepares
 
+-- all of a copy's log and its accepted term are on its disk
+pub record IsAllOnDisk (copy : Copy Content ℕ) : Type 0 where
+  pub accepted : copy.disk.accepted ≡ copy.accepted
+  pub log : copy.disk.log ≡ copy.log
+
+-- bytes are those of a copy's store, on which a copy begins with the log that is there
+pub record HoldsSound (copy : Copy Content ℕ) (image : List ℕ) : Type 0 where
+  pub held : Held
+  pub is_store : IsStore held copy.disk.layout image
+  pub pair : IsPair held copy.disk.layout copy.disk
+  pub chain_own : held.meta.chain ≡ copy.chain
+  pub place_own : held.meta.place ≡ copy.place
+  pub sound : IsSound held copy.disk
+
 -- A copy begins on what a store holds: with the log that is there; or without entries, where that isn't whole.
 abbrev pub BeginsWith : Held → Chain → ℕ → ℕ → Pair Content ℕ → Copy Content ℕ → Type 0
 BeginsWith held chain place number d c =

@@ -1,6 +1,7 @@
 //! How requests are answered.
 
-ghost use Rattle.std.specs.Prelude.{◌≡◌, ◌≤◌, ℕ, Some, None, [], is_some, true, false, IfOk, OnErr};
+ghost use Rattle.std.specs.Prelude.{◌≡◌, ◌≤◌, ℕ, Some, None, [], length, is_some, true, false, IfOk, OnErr};
+ghost use Rattle.kv_request.specs.declared.reading.TheConstants.{VALUE_LIMIT};
 ghost use Rattle.kv_request.specs.declared.request.Body.TheVariants as bodies;
 ghost use Rattle.kv_request.specs.Tables.{IsRequest, IsReply, IsSmallReply, key_named, is_for_session};
 ghost use Rattle.doc_model.specs.declared.status.TheConstants.Status as status;
@@ -26,7 +27,6 @@ ghost use Rattle.vb_core.specs.Plans.{CanBeEntered, IsAtHome};
 
 use crate::changing::{draw, name_of, tells_token};
 use crate::making::Made;
-use crate::managing::success;
 use crate::vbucket::Vb;
 use copy_model::{CAS_LIMIT, LAST_MOMENT, Outcome};
 use doc_model::{DocKey, Refused, Status, What};
@@ -402,4 +402,18 @@ fn telling(body: &Body, term: u64, position: u64, reply: Reply) -> Reply
         reply.token = Some((term, position));
     }
     reply
+}
+
+/// The reply of success with extras and a value, which are short enough for a reply.
+fn success(alloc: Global, request: &Request, extras: Bytes, value: Bytes) -> Reply
+    requires extras { length extras ≤ 12 }
+    requires value { length value ≤ VALUE_LIMIT }
+    ensures reply { result ≡ success request.now extras value }
+    ensures fits { IsReply result }
+{
+    Reply {
+        extras,
+        value,
+        ..refusal(alloc, request.opcode, request.opaque, Status::SUCCESS)
+    }
 }

@@ -1,14 +1,10 @@
 //! What no clause shows: vbuckets on disks in memory that outlive them, and on disks that fail.
-ghost use Rattle.std.specs.Prelude.{◌≡◌};
-ghost use Rattle.kv_request.specs.Tables.{is_for_session};
 
-use crate::{Outcome, Vb, VbFault};
-use doc_model::{Refused, Status};
-use durability_core::Chain;
-use kv_edge::{Bytes, NoMemory, Seq};
-use kv_frame::{Frame, Magic, fits};
+use crate::asking::{self, FRUIT, NO_FRUIT, opened, opened_first, plain, within};
+use crate::{Vb, VbFault};
+use doc_model::Refused;
+use kv_request::Reply;
 use kv_request::opcode::{DELETE, GET, SET, SET_MANIFEST};
-use kv_request::{Body, Features, Reply, read_request};
 use magma_disk::{Disk, MemDisk};
 use std::alloc::Global;
 use std::test::Fail;
@@ -28,41 +24,7 @@ const OTHER_FAULT: u16 = 2;
 // No flags and no expiry.
 const PLAIN: &[u8] = &[0, 0, 0, 0, 0, 0, 0, 0];
 
-// A manifest with the collections 0 and 8, and one without collection 8 again.
-const FRUIT: &str =
-    "{\"uid\":\"1\",\"scopes\":[{\"name\":\"_default\",\"uid\":\"0\",\"collections\":[{\"name\":\"_default\",\"uid\":\"0\"},{\"name\":\"fruit\",\"uid\":\"8\"}]}]}";
-
-const NO_FRUIT: &str =
-    "{\"uid\":\"2\",\"scopes\":[{\"name\":\"_default\",\"uid\":\"0\",\"collections\":[{\"name\":\"_default\",\"uid\":\"0\"}]}]}";
-
-// The frame of a request on a key, which has the id of its collection before its name.
-fn frame(alloc: Global, opcode: u8, key: &str, value: &str) -> Result<Frame, NoMemory> {
-    let extras = if opcode == SET { PLAIN } else { &[] };
-    Ok(Frame {
-        magic: Magic::Request,
-        opcode,
-        datatype: 0,
-        word: 0,
-        opaque: 7,
-        cas: 0,
-        framing: Seq::new(alloc),
-        extras: Bytes::from_slice(alloc, extras)?,
-        key: Bytes::from_slice(alloc, key.as_bytes())?,
-        value: Bytes::from_slice(alloc, value.as_bytes())?,
-    })
-}
-
-// Whether a session answers it.
-fn is_of_session(body: &Body) -> bool
-    ensures { result ≡ is_for_session body.now }
-{
-    matches!(
-        body,
-        Body::Hello { .. } | Body::Noop | Body::Version | Body::Quit
-    )
-}
-
-// What is answered at the moment 0. It goes by a frame, since only a request of a frame may be handed to a vbucket.
+// What is answered at the moment 0 to a request on a key, which has the id of its collection before its name.
 fn ask(
     alloc: Global,
     vb: &mut Vb<MemDisk>,
@@ -70,33 +32,9 @@ fn ask(
     key: &str,
     value: &str,
 ) -> Result<Reply, Refused> {
-    let frame = frame(alloc, opcode, key, value)?;
-    if !fits(&frame) {
-        return Err(Refused::Status(Status::EINVAL));
-    }
-    let granted = Features {
-        token: false,
-        json: false,
-        collections: true,
-    };
-    let request = read_request(alloc, &frame, &granted)?;
-    if is_of_session(&request.body) {
-        return Err(Refused::Status(Status::EINVAL));
-    }
-    match vb.request(&request, 0) {
-        Outcome::Reply(reply) => Ok(reply),
-        Outcome::Parked(_) => Err(Refused::Status(Status::NOT_SUPPORTED)),
-    }
-}
-
-// The vbucket 0 of the one place of a chain, on a disk.
-fn opened(alloc: Global, disk: MemDisk) -> Result<Vb<MemDisk>, Refused> {
-    let chain = Chain::of_one(alloc, b"a")?;
-    let (opened, _back) = Vb::open_vb(alloc, disk, 0, &chain, 0);
-    match opened {
-        Ok(vb) => Ok(vb),
-        Err(_) => Err(Refused::Status(Status::ETMPFAIL)),
-    }
+    let extras = if opcode == SET { PLAIN } else { &[] };
+    let asked = within(plain(opcode, extras, value.as_bytes()), key.as_bytes());
+    asking::ask(alloc, vb, asked, 0)
 }
 
 // What a flush comes to.
@@ -110,7 +48,7 @@ fn flushed(vb: &mut Vb<MemDisk>) -> u16 {
 
 // The place of the first row that isn't answered with its status, or a Get of it with its value; over an empty disk.
 fn first_other(alloc: Global, rows: &[(u8, &str, &str, u16)]) -> Result<Option<usize>, Refused> {
-    let mut vb = opened(alloc, MemDisk::new(alloc, Vec::new(alloc)))?;
+    let mut vb = opened_first(alloc)?;
     for (place, (deed, key, value, status)) in rows.iter().enumerate() {
         let told = match *deed {
             FLUSH => flushed(&mut vb),

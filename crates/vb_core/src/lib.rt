@@ -34,35 +34,22 @@
 //! | a write or a sync | `DiskFault`, or `ETMPFAIL` to the request that flushed first | the copy is dead, and its disk holds the old or the new |
 //! | no room on the disk | `Full`, or `EBUSY` to that request | all as it was |
 //! | memory | `NoMemory`, or `ENOMEM` to a request | all as it was; behind an opening the store may be opened once more |
-//!
-//! `PlainVb` is a vbucket in memory alone, which `pipe` still uses.
 #![tactic(auto)]
 
 mod answering;
 mod changing;
 mod finding;
 mod flushed;
-mod histories;
-mod laws;
 mod making;
-mod managing;
 mod opening;
 mod putting;
-mod vb;
 mod vbucket;
 
 pub use copy_model::{Outcome, Polled, Ticket, VbFault};
-pub use histories::{
-    flushes_change_no_document, get_misses_what_is_deleted, get_tells_what_was_set, numbers_rise,
-    other_documents_stay,
-};
-pub use laws::{
-    dropped_collections_are_empty, expired_documents_are_kept, get_answers_what_was_stored,
-    get_misses_what_was_deleted, kept_collections_stay, other_keys_stay, vbucket_numbers,
-};
-pub use vb::{LAST_MOMENT, PlainVb, TERM, VBUCKET};
 pub use vbucket::Vb;
 
+#[cfg(test)]
+mod asking;
 #[cfg(test)]
 mod disk_tests;
 #[cfg(test)]

@@ -1,31 +1,14 @@
-ghost use Rattle.std.specs.Prelude.{◌≡◌};
-ghost use Rattle.kv_request.specs.Tables.{is_for_session};
+//! What no clause shows: what a vbucket answers to rows of requests.
 
-use crate::PlainVb;
-use doc_model::{Refused, Status};
-use kv_edge::{Bytes, NoMemory, Seq};
-use kv_frame::{Frame, FrameExtra, Magic, fits};
+use crate::asking::{Asked, FRUIT, NO_FRUIT, ask, opened_first, plain, within};
+use doc_model::Refused;
+use kv_request::Reply;
 use kv_request::opcode::{
     ADD, COLLECTION_ID, DELETE, GET, GET_MANIFEST, GETQ, INCREMENT, SCOPE_ID, SET, SET_MANIFEST,
     SETQ, TOUCH,
 };
-use kv_request::{Body, DURABILITY, Features, Reply, read_request};
 use std::alloc::Global;
 use std::test::Fail;
-
-// A request with the opaque 7.
-#[derive(Clone, Copy)]
-struct Asked<'a> {
-    opcode: u8,
-    vbucket: u16,
-    cas: u64,
-    level: Option<u8>,
-    // Whether collections are granted.
-    collections: bool,
-    extras: &'a [u8],
-    key: &'a [u8],
-    value: &'a [u8],
-}
 
 // The flags 2a and no expiry, or the first second of 1970 as the expiry.
 const FLAGS: [u8; 8] = [0, 0, 0, 0x2a, 0, 0, 0, 0];
@@ -38,46 +21,22 @@ const EXPIRY_NINE: [u8; 4] = [0, 0, 0, 9];
 // Count by 1, and begin with 5.
 const ONE_FROM_FIVE: [u8; 20] = [0, 0, 0, 0, 0, 0, 0, 1, 0, 0, 0, 0, 0, 0, 0, 5, 0, 0, 0, 0];
 
-// The manifest of a vbucket without a history, one with another collection, and one without it again.
-const FIRST: &[u8] =
-    b"{\"uid\":\"0\",\"scopes\":[{\"name\":\"_default\",\"uid\":\"0\",\"collections\":[{\"name\":\"_default\",\"uid\":\"0\"}]}]}";
-
-const FRUIT: &[u8] =
-    b"{\"uid\":\"1\",\"scopes\":[{\"name\":\"_default\",\"uid\":\"0\",\"collections\":[{\"name\":\"_default\",\"uid\":\"0\"},{\"name\":\"fruit\",\"uid\":\"8\"}]}]}";
-
-const NO_FRUIT: &[u8] =
-    b"{\"uid\":\"2\",\"scopes\":[{\"name\":\"_default\",\"uid\":\"0\",\"collections\":[{\"name\":\"_default\",\"uid\":\"0\"}]}]}";
+// The manifest of a vbucket without a history.
+const FIRST: &str =
+    "{\"uid\":\"0\",\"scopes\":[{\"name\":\"_default\",\"uid\":\"0\",\"collections\":[{\"name\":\"_default\",\"uid\":\"0\"}]}]}";
 
 // The other collection with a greatest lifetime of a second.
-const SHORT_FRUIT: &[u8] =
-    b"{\"uid\":\"1\",\"scopes\":[{\"name\":\"_default\",\"uid\":\"0\",\"collections\":[{\"name\":\"fruit\",\"uid\":\"8\",\"maxTTL\":1}]}]}";
-
-// A request on the key `n`, where no collections are granted.
-fn plain<'a>(opcode: u8, extras: &'a [u8], value: &'a [u8]) -> Asked<'a> {
-    Asked {
-        opcode,
-        vbucket: 0,
-        cas: 0,
-        level: None,
-        collections: false,
-        extras,
-        key: b"n",
-        value,
-    }
-}
-
-// A request on a key with its collection.
-fn within<'a>(asked: Asked<'a>, key: &'a [u8]) -> Asked<'a> {
-    Asked {
-        collections: true,
-        key,
-        ..asked
-    }
-}
+const SHORT_FRUIT: &str =
+    "{\"uid\":\"1\",\"scopes\":[{\"name\":\"_default\",\"uid\":\"0\",\"collections\":[{\"name\":\"fruit\",\"uid\":\"8\",\"maxTTL\":1}]}]}";
 
 // A request on the manifest.
 fn managing<'a>(opcode: u8, key: &'a [u8], value: &'a [u8]) -> Asked<'a> {
     within(plain(opcode, b"", value), key)
+}
+
+// A request that this text takes the place of the manifest.
+fn replacing<'a>(text: &'a str) -> Asked<'a> {
+    managing(SET_MANIFEST, b"", text.as_bytes())
 }
 
 fn get<'a>() -> Asked<'a> {
@@ -92,65 +51,12 @@ fn set<'a>() -> Asked<'a> {
     plain(SET, &FLAGS, b"hi")
 }
 
-// The frame of a request, with a framing extra where a level is asked for.
-fn frame(alloc: Global, asked: Asked<'_>) -> Result<Frame, NoMemory> {
-    let mut framing = Seq::new(alloc);
-    let mut magic = Magic::Request;
-    if let Some(level) = asked.level {
-        magic = Magic::FlexRequest;
-        framing.push(FrameExtra {
-            id: DURABILITY,
-            body: Bytes::from_slice(alloc, &[level])?,
-        })?;
-    }
-    Ok(Frame {
-        magic,
-        opcode: asked.opcode,
-        datatype: 0,
-        word: asked.vbucket,
-        opaque: 7,
-        cas: asked.cas,
-        framing,
-        extras: Bytes::from_slice(alloc, asked.extras)?,
-        key: Bytes::from_slice(alloc, asked.key)?,
-        value: Bytes::from_slice(alloc, asked.value)?,
-    })
-}
-
-// Whether a session answers it.
-fn is_of_session(body: &Body) -> bool
-    ensures { result ≡ is_for_session body.now }
-{
-    matches!(
-        body,
-        Body::Hello { .. } | Body::Noop | Body::Version | Body::Quit
-    )
-}
-
-// What is answered at this moment. It goes by a frame, since only a request of a frame may be handed to a vbucket.
-fn ask(alloc: Global, vb: &mut PlainVb, asked: Asked<'_>, now: u64) -> Result<Reply, Refused> {
-    let frame = frame(alloc, asked)?;
-    if !fits(&frame) {
-        return Err(Refused::Status(Status::EINVAL));
-    }
-    let granted = Features {
-        token: false,
-        json: false,
-        collections: asked.collections,
-    };
-    let request = read_request(alloc, &frame, &granted)?;
-    if is_of_session(&request.body) {
-        return Err(Refused::Status(Status::EINVAL));
-    }
-    Ok(vb.request(&request, now))
-}
-
-// The place of the first request, at its moment, that isn't answered with its status, over a vbucket without a history.
+// The place of the first request, at its moment, that isn't answered with its status, over an empty disk.
 fn first_other_status(
     alloc: Global,
     rows: &[(Asked<'_>, u64, u16)],
 ) -> Result<Option<usize>, Refused> {
-    let mut vb = PlainVb::open_plain(alloc)?;
+    let mut vb = opened_first(alloc)?;
     for (place, (asked, now, status)) in rows.iter().enumerate() {
         let reply = ask(alloc, &mut vb, *asked, *now)?;
         if reply.status.code != *status {
@@ -175,7 +81,7 @@ fn first_other_change(
     now: u64,
     rows: &[(Asked<'_>, u64, u64)],
 ) -> Result<Option<usize>, Refused> {
-    let mut vb = PlainVb::open_plain(alloc)?;
+    let mut vb = opened_first(alloc)?;
     for (place, (asked, cas, position)) in rows.iter().enumerate() {
         let reply = ask(alloc, &mut vb, *asked, now)?;
         if reply.cas != *cas || position_told(&reply) != *position {
@@ -190,7 +96,7 @@ fn first_other_body(
     alloc: Global,
     rows: &[(Asked<'_>, &[u8], &[u8])],
 ) -> Result<Option<usize>, Refused> {
-    let mut vb = PlainVb::open_plain(alloc)?;
+    let mut vb = opened_first(alloc)?;
     for (place, (asked, extras, value)) in rows.iter().enumerate() {
         let reply = ask(alloc, &mut vb, *asked, 0)?;
         if reply.opcode != asked.opcode || reply.opaque != 7 {
@@ -303,13 +209,13 @@ fn levels_vbuckets_and_a_cas_are_refused(rt: HostRuntime) -> Result<(), Fail> {
 fn a_manifest_makes_a_collection_and_another_drops_it(rt: HostRuntime) -> Result<(), Fail> {
     let rows = [
         (within(set(), b"\x08a"), 0, 0x0088),
-        (managing(SET_MANIFEST, b"", FRUIT), 0, 0x0000),
+        (replacing(FRUIT), 0, 0x0000),
         (within(set(), b"\x08a"), 0, 0x0000),
         (within(get(), b"\x08a"), 0, 0x0000),
         (within(get(), b"\x09a"), 0, 0x0088),
-        (managing(SET_MANIFEST, b"", FIRST), 0, 0x008b),
-        (managing(SET_MANIFEST, b"", b"{"), 0, 0x0004),
-        (managing(SET_MANIFEST, b"", NO_FRUIT), 0, 0x0000),
+        (replacing(FIRST), 0, 0x008b),
+        (replacing("{"), 0, 0x0004),
+        (replacing(NO_FRUIT), 0, 0x0000),
         (within(get(), b"\x08a"), 0, 0x0088),
     ];
     assert_eq!(rt; first_other_status(rt.alloc(), &rows)?, None);
@@ -319,8 +225,8 @@ fn a_manifest_makes_a_collection_and_another_drops_it(rt: HostRuntime) -> Result
 #[test]
 fn a_manifest_takes_a_position_where_it_changes_something(rt: HostRuntime) -> Result<(), Fail> {
     let rows = [
-        (managing(SET_MANIFEST, b"", FRUIT), 0, 0),
-        (managing(SET_MANIFEST, b"", FRUIT), 0, 0),
+        (replacing(FRUIT), 0, 0),
+        (replacing(FRUIT), 0, 0),
         (set(), 1, 2),
     ];
     assert_eq!(rt; first_other_change(rt.alloc(), 0, &rows)?, None);
@@ -330,13 +236,17 @@ fn a_manifest_takes_a_position_where_it_changes_something(rt: HostRuntime) -> Re
 #[test]
 fn the_manifest_and_ids_are_told(rt: HostRuntime) -> Result<(), Fail> {
     let rows = [
-        (managing(GET_MANIFEST, b"", b""), b"".as_slice(), FIRST),
         (
-            managing(SET_MANIFEST, b"", FRUIT),
+            managing(GET_MANIFEST, b"", b""),
             b"".as_slice(),
-            b"".as_slice(),
+            FIRST.as_bytes(),
         ),
-        (managing(GET_MANIFEST, b"", b""), b"".as_slice(), FRUIT),
+        (replacing(FRUIT), b"".as_slice(), b"".as_slice()),
+        (
+            managing(GET_MANIFEST, b"", b""),
+            b"".as_slice(),
+            FRUIT.as_bytes(),
+        ),
         (
             managing(COLLECTION_ID, b"_default.fruit", b""),
             b"\0\0\0\0\0\0\0\x01\0\0\0\x08".as_slice(),
@@ -355,7 +265,7 @@ fn the_manifest_and_ids_are_told(rt: HostRuntime) -> Result<(), Fail> {
 #[test]
 fn a_lifetime_is_cut_to_the_greatest_of_its_collection(rt: HostRuntime) -> Result<(), Fail> {
     let rows = [
-        (managing(SET_MANIFEST, b"", SHORT_FRUIT), 0, 0x0000),
+        (replacing(SHORT_FRUIT), 0, 0x0000),
         (within(set(), b"\x08a"), 0, 0x0000),
         (within(get(), b"\x08a"), 999, 0x0000),
         (within(get(), b"\x08a"), 1_000, 0x0001),

@@ -4,7 +4,8 @@ ghost use Rattle.magma_disk.specs.Calls.{MayLeave};
 ghost use Rattle.magma_disk.specs.Counting.{CountsPlan};
 ghost use Rattle.magma_disk.specs.Plan.{planned};
 ghost use Rattle.manifest_rules.specs.State.{is_kept};
-ghost use Rattle.vb_core.specs.Means.{IsCopy};
+ghost use Rattle.vb_core.specs.Means.{Lives, IsCopy};
+ghost use Rattle.vb_core.specs.Openings.{IsAllOnDisk, HoldsSound};
 ghost use Rattle.vb_core.specs.Pairs.{HoldsOf};
 ghost use Rattle.vb_log.specs.Content as contents;
 
@@ -87,11 +88,14 @@ impl<D: Disk> Vb<D> {
         self.store.plan_fault(after, lasting);
     }
 
-    /// The disk. A crash leaves on it a pair that the vbucket's copy may hold.
+    /// The disk. A crash leaves on it a pair that the vbucket's copy may hold; where its log is all there, one on which a copy
+    /// begins with that log.
     pub fn finish(self) -> D
         ensures disk { result ≡ self.store.disk }
         ensures leaves { (copy : Copy contents.Content ℕ) → IsCopy D.states self copy → (image : List ℕ) →
             MayLeave (D.states result) image → HoldsOf copy image }
+        ensures sound { (copy : Copy contents.Content ℕ) → Lives D.states self copy → IsAllOnDisk copy → (image : List ℕ) →
+            MayLeave (D.states result) image → HoldsSound copy image }
     {
         let Vb { store, .. } = self;
         store.finish()

@@ -50,4 +50,4 @@ returns-clause-made g c = λ copy l size.
     let small = large_is states vb copy c.args.cas c.args.size c.length.result e c.is_too_much.result _ l size length c.is_too_much.ensures c.if-is_too_much.false in
     let later = first_is states vb copy i.unflushed_entries i.unflushed_bytes c.must_flush.result _ l entries bytes c.must_flush.ensures c.if-must_flush.false in
     subst (λ (v : ShownVb D). Makes states counts copy c.args.cas e vb v made.Done) (sym c.in_ok-add_now.ensures.ok)
-    (adds_at_once states counts copy c.args.cas e (option_copied c.args.key) c.args.dropped.now vb home l c.requires.covers small later)
+    (adds_at_once states counts copy c.args.cas e (option_copied c.args.key) c.args.dropped.now vb home l c.requires.covers c.requires.entry c.requires.allowed small later)

@@ -1,11 +1,11 @@
 use Rattle.std.specs.Option.{option_copied}
 use Rattle.std.specs.FinMap as map
 use Rattle.std.specs.Prelude.{Err, Ok}
-use Rattle.std.proofs.Common.{◌≡◌, sym, ◌∙◌, ap, subst}
+use Rattle.std.proofs.Common.{◌≡◌, true, sym, ◌∙◌, ap, subst}
 use Rattle.magma_disk.specs.Counting.{Counts}
 use Rattle.magma_store.specs.Counting.{CountsStore}
 use Rattle.magma_store.specs.declared.fault.StoreFault.{StoreFault}
-use Rattle.vb_log.specs.Content.{Content}
+use Rattle.vb_log.specs.Content.{Content, allowed}
 use Rattle.vb_core.specs.Covering.{CanCount, grown}
 use Rattle.vb_core.specs.Plans.{IsAtHome}
 use Rattle.vb_core.specs.Making.{Covers, Makes}
@@ -13,7 +13,7 @@ use Rattle.vb_core.specs.Putting.{Puts}
 use Rattle.vb_core.specs.Shown.{ShownVb}
 use Rattle.vb_core.specs.declared.making.Made.TheVariants as made
 use Rattle.vb_core.proofs.Lasting.{fit_grown}
-use Rattle.vb_core.proofs.Changed.{Emptied, emptied_after, emptied_covers, emptied_short, grown_is, counts_anyhow, put_counts, adds_behind, refused_full, refused_failed}
+use Rattle.vb_core.proofs.Changed.{allowed_alike, Emptied, emptied_after, emptied_covers, emptied_short, grown_is, counts_anyhow, put_counts, adds_behind, refused_full, refused_failed}
 use Rattle.vb_core.proofs.vbucket.Vb.put_and_make.Goals as goal
 
 -- a content without its items
@@ -95,8 +95,9 @@ returns-clause-made g c = λ copy cas l first.
     ∙ ap (λ (v : ShownVb D). grown e key dropped v) view in
     let covered = subst (λ (v : ShownVb D). Covers v.recent.manifest e key dropped) view
     (emptied_covers key dropped then c.requires.covers) in
+    let can : allowed mid.recent e ≡ true = ap (λ (x : Content). allowed x e) c.in-Ok.ensures.recent ∙ sym (allowed_alike old.recent map.empty e) ∙ c.requires.allowed in
     subst (λ (v : ShownVb D). Makes states counts copy cas e old v made.Done) (sym is)
-    (adds_behind states counts copy cas e key dropped old mid tt l puts covered first)
+    (adds_behind states counts copy cas e key dropped old mid tt l puts covered c.requires.entry can first)
 
 pub returns-clause-counts : goal.returns-clause-counts
 returns-clause-counts g c =

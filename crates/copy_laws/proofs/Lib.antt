@@ -1,0 +1,10 @@
+pub mod Deeds
+pub mod Guarding
+pub mod Historic
+pub mod Keys
+pub mod Lasting
+pub mod Manifests
+pub mod Numbers
+pub mod Passing
+pub mod Remembered
+pub mod Served

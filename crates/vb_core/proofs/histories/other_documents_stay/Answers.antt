@@ -1,5 +1,0 @@
-use Rattle.vb_core.proofs.Historic.{others_stay}
-use Rattle.vb_core.proofs.histories.other_documents_stay.Goals as goal
-
-pub returns : goal.returns
-returns g c = λ y a b request now reply other none t named differs. others_stay y a b request now reply other none t named differs

@@ -1,7 +1,0 @@
-use Rattle.std.specs.Prelude.{length}
-use Rattle.std.proofs.Common.{arith, ap}
-use Rattle.vb_core.proofs.Manifests.{kept_short}
-use Rattle.vb_core.proofs.vb.PlainVb.tell_manifest.Goals as goal
-
-pub success-requires-clause-value : goal.success-requires-clause-value
-success-requires-clause-value c = omega (arith, ap length c.in_ok-text.ensures, kept_short c.self.inside.manifest c.self.invariant.2)
