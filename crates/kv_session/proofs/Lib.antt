@@ -5,3 +5,4 @@ pub mod Granting
 pub mod Missing
 pub mod Lying
 pub mod Telling
+pub mod Weaving

@@ -3,3 +3,4 @@ pub mod Filling
 pub mod Session
 pub mod Making
 pub mod Cutting
+pub mod Weaving

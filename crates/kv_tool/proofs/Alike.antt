@@ -1,5 +1,5 @@
 -- Two runs over the same input come to the same.
-use Rattle.std.proofs.Common.{◌≡◌, ◌≢◌, ℕ, ◌+◌, ◌<◌, ◌≤◌, Bool, true, false, List, [], ◌∷◌, ◌++◌, length, take, drop, Option, Some, inl, inr, ◌⊎◌, refl, sym, ap, subst, ◌∙◌, append_assoc, append-nil, take-append-drop, length-append, arith}
+use Rattle.std.proofs.Common.{◌≡◌, ◌≢◌, ℕ, ◌+◌, ◌-◌, ◌^◌, ◌<◌, ◌≤◌, Bool, true, false, List, [], ◌∷◌, ◌++◌, length, take, drop, Option, Some, Result, inl, inr, ◌⊎◌, refl, sym, ap, subst, ◌∙◌, append_assoc, append-nil, take-append-drop, length-append, arith}
 use Rattle.std.specs.List.{flat_map}
 use Rattle.std.specs.Io.KnownBytes.{append_known, IsAtEnd}
 use Rattle.std.proofs.lemmas.List.{take_at, drop_at, take-take}
@@ -20,11 +20,16 @@ use Rattle.kv_session.proofs.CuttingLaws.{one_reading, lacking_begins_none, bad_
 use Rattle.kv_tool.specs.declared.exit.Exit.{Exit}
 use Rattle.kv_tool.specs.declared.exit.Exit.TheVariants as exits
 use Rattle.kv_tool.specs.declared.piping.TheConstants.{INPUT_LIMIT}
-use Rattle.kv_tool.specs.Pipe.{IsServed, output, quit_came}
-use Rattle.kv_tool.specs.Outcomes.{Seen, Run, IsRun, IsOpen, Outcome}
+use Rattle.kv_session.specs.Weaving.{output, quit_came}
+use Rattle.kv_session.specs.Cutting.{at_start}
+use Rattle.kv_session.proofs.Weaving.{read_further}
+use Rattle.vb_log.specs.Content.{Content}
+use Rattle.copy_model.specs.declared.outcome.VbFault.{VbFault}
+use Rattle.copy_model.specs.Copies.{Copy}
+use Rattle.kv_tool.specs.Course.{Knowledge, IsAt, RoseBy, IsFlushed}
+use Rattle.kv_tool.specs.Outcomes.{Seen, Run, IsRun, IsServed, IsOpen, Left, Outcome}
 use Rattle.kv_tool.specs.Alike.{run_of, AreGiven, IsClear}
-use Rattle.kv_tool.proofs.Snoc.{read_further}
-use Rattle.kv_tool.proofs.Same.{same_served}
+use Rattle.kv_tool.proofs.Same.{same_served, ends_beyond}
 
 -- why a run ended that left these bytes
 abbrev Stops : Exit → Run → List ℕ → Type 0
@@ -37,20 +42,59 @@ Stops exits.Usage run left = ⊥
 Stops exits.ReadFault run left = ⊥
 Stops exits.WriteFault run left = ⊥
 Stops exits.NoMemory run left = ⊥
+Stops exits.DiskFault run left = ⊥
+Stops (exits.Damaged disk place found expected) run left = ⊥
+Stops (exits.Spent found) run left = ⊥
+Stops (exits.OtherChain disk) run left = ⊥
+Stops (exits.Full needed free) run left = ⊥
 
 -- a run over this input that nothing disturbed
-record Ran (now : ℕ) (input before : List ℕ) (seen : Seen) (exit : Exit) (run : Run) : Type 0 where
+record Ran (now : ℕ) (input before : List ℕ) (copy : Copy Content ℕ) (seen : Seen) (exit : Exit) (run : Run) : Type 0 where
   left : List ℕ
+  after : Copy Content ℕ
   all : input ≡ run.input ++ left
   small : length run.input ≤ INPUT_LIMIT
-  served : IsServed now run.input run.frames run.rest run.replies
+  served : IsServed now run.input run.frames run.rest run.replies (IsAt copy 0) (IsAt after 0)
   wrote : seen.written_now ≡ Some (before ++ output run.frames run.replies)
   stops : Stops exit run left
 
 -- ---- what an outcome says where the input is told
 
-served_at : (M : ℕ → Type 0) (now : ℕ) (run : Run) → IsRun M run → run.now ≡ now → IsServed now run.input run.frames run.rest run.replies
-served_at M now run is at = subst (λ (n : ℕ). IsServed n run.input run.frames run.rest run.replies) at is.served
+-- it began with a copy and came to one, and no fault was counted
+record IsServedWell (now : ℕ) (run : Run) (copy : Copy Content ℕ) : Type 0 where
+  after : Copy Content ℕ
+  served : IsServed now run.input run.frames run.rest run.replies (IsAt copy 0) (IsAt after 0)
+
+served_to : (now : ℕ) (run : Run) (copy after : Copy Content ℕ) (more : ℕ) → IsServed now run.input run.frames run.rest run.replies (IsAt copy 0) run.end → run.end ≡ IsAt after (0 + more) → more ≡ 0 → IsServedWell now run copy
+served_to now run copy after more s is none = record {
+  after = after;
+  served = subst (λ (k : Knowledge). IsServed now run.input run.frames run.rest run.replies (IsAt copy 0) k) (is ∙ ap (λ (n : ℕ). IsAt after (0 + n)) none) s;
+}
+
+served_at : (M : ℕ → Type 0) (now : ℕ) (seen : Seen) (run : Run) (copy : Copy Content ℕ) → IsRun M seen.disk_before run → run.now ≡ now → run.begin ≡ IsAt copy 0 → IsServed now run.input run.frames run.rest run.replies (IsAt copy 0) run.end
+served_at M now seen run copy is at begins =
+    subst (λ (k : Knowledge). IsServed now run.input run.frames run.rest run.replies k run.end) begins (subst (λ (n : ℕ). IsServed n run.input run.frames run.rest run.replies run.begin run.end) at is.served)
+
+-- faults that were counted didn't come where the count stayed below its end
+none_came : (before now count : ℕ) → now ≡ before → before < 2 ^ 64 - 1 → RoseBy count before now → count ≡ 0
+none_came before now count calm counting rose = omega (arith, calm, counting, rose)
+
+left_well : (now : ℕ) (input before : List ℕ) (copy : Copy Content ℕ) (seen : Seen) (exit : Exit) (run : Run) → IsClear now input before copy seen exit run → IsServed now run.input run.frames run.rest run.replies (IsAt copy 0) run.end → Left seen run.end
+    → IsServedWell now run copy
+left_well now input before copy seen exit run clear s left =
+    let b = ends_beyond now at_start copy 0 run.frames run.replies run.end s.answered in
+    let at : Left seen (IsAt b.copy (0 + b.more)) = subst (Left seen) b.is left in
+    let none : 0 + b.more ≡ 0 = none_came seen.faults_before seen.faults_now (0 + b.more) clear.calm clear.counting at.1 in
+    served_to now run copy b.copy b.more s b.is (omega (arith, none))
+
+flushed_well : (now : ℕ) (input before : List ℕ) (copy : Copy Content ℕ) (seen : Seen) (exit : Exit) (run : Run) (told : Result ℕ VbFault) (last : Knowledge) → IsClear now input before copy seen exit run
+    → IsServed now run.input run.frames run.rest run.replies (IsAt copy 0) run.end → IsFlushed run.end told last → Left seen last → IsServedWell now run copy
+flushed_well now input before copy seen exit run told last clear s puts left =
+    let b = ends_beyond now at_start copy 0 run.frames run.replies run.end s.answered in
+    let goes : IsFlushed (IsAt b.copy (0 + b.more)) told last = subst (λ (k : Knowledge). IsFlushed k told last) b.is puts in
+    let at : Left seen (IsAt goes.0 (0 + b.more + goes.1)) = subst (Left seen) goes.2 left in
+    let none : 0 + b.more + goes.1 ≡ 0 = none_came seen.faults_before seen.faults_now (0 + b.more + goes.1) clear.calm clear.counting at.1 in
+    served_to now run copy b.copy b.more s b.is (omega (arith, none))
 
 wrote_at : (seen : Seen) (before out : List ℕ) → seen.written_before ≡ Some before → PutAll seen.written_before seen.written_now out → seen.written_now ≡ Some (before ++ out)
 wrote_at seen before out told put = put ∙ ap (λ (b : Option (List ℕ)). append_known b out) told
@@ -61,51 +105,66 @@ left_at seen input taken told took = took_known input seen.left_now taken (subst
 at_end : (seen : Seen) (left : List ℕ) → seen.left_now ≡ Some left → IsAtEnd seen.left_now → left ≡ []
 at_end seen left is end = subst IsAtEnd is end
 
-ran : (M : ℕ → Type 0) (now : ℕ) (input before : List ℕ) (seen : Seen) (exit : Exit) (o : Outcome M seen exit) → IsClear now input before seen exit (run_of M seen exit o) → Ran now input before seen exit (run_of M seen exit o)
-ran M now input before seen exits.Done (run, is, took, fin, wrote) clear =
-    let t = left_at seen input run.input clear.left took in
+ran : (M : ℕ → Type 0) (now : ℕ) (input before : List ℕ) (copy : Copy Content ℕ) (seen : Seen) (exit : Exit) (o : Outcome M seen exit) → IsClear now input before copy seen exit (run_of M seen exit o) → Ran now input before copy seen exit (run_of M seen exit o)
+ran M now input before copy seen exits.Done (told, comes, closes) clear =
+    let run : Run = closes.run in
+    let t = left_at seen input run.input clear.left closes.took in
+    let s = served_at M now seen run copy closes.is clear.at_moment clear.begins in
+    let well = flushed_well now input before copy seen exits.Done run told closes.last clear s closes.puts closes.left in
     record {
       left = t.0;
+      after = well.after;
       all = t.2;
-      small = is.small;
-      served = served_at M now run is clear.at_moment;
-      wrote = wrote_at seen before (output run.frames run.replies) clear.written wrote;
-      stops = elim fin [ inl quit ↦ inl quit | inr (none, end) ↦ inr (none, at_end seen t.0 t.1 end) ];
+      small = closes.is.small;
+      served = well.served;
+      wrote = wrote_at seen before (output run.frames run.replies) clear.written closes.wrote;
+      stops = elim closes.finished [ inl quit ↦ inl quit | inr (none, end) ↦ inr (none, at_end seen t.0 t.1 end) ];
     }
-ran M now input before seen exits.TooLong (run, more, is, whole, took, opened, wrote) clear =
+ran M now input before copy seen exits.TooLong (run, more, is, whole, took, opened, wrote, known) clear =
     let t = left_at seen input (run.input ++ more ∷ []) clear.left took in
+    let well = left_well now input before copy seen exits.TooLong run clear (served_at M now seen run copy is clear.at_moment clear.begins) known in
     record {
       left = more ∷ t.0;
+      after = well.after;
       all = t.2 ∙ append_assoc run.input (more ∷ []) t.0;
       small = is.small;
-      served = served_at M now run is clear.at_moment;
+      served = well.served;
       wrote = wrote_at seen before (output run.frames run.replies) clear.written wrote;
       stops = (whole, opened, omega arith);
     }
-ran M now input before seen (exits.BadFrame place) (run, offset, fault, is, took, going, bad, at, wrote) clear =
+ran M now input before copy seen (exits.BadFrame place) (run, offset, fault, is, took, going, bad, at, wrote, known) clear =
     let t = left_at seen input run.input clear.left took in
+    let well = left_well now input before copy seen (exits.BadFrame place) run clear (served_at M now seen run copy is clear.at_moment clear.begins) known in
     record {
       left = t.0;
+      after = well.after;
       all = t.2;
       small = is.small;
-      served = served_at M now run is clear.at_moment;
+      served = well.served;
       wrote = wrote_at seen before (output run.frames run.replies) clear.written wrote;
       stops = (offset, fault, going, bad, at);
     }
-ran M now input before seen (exits.Cut count) (run, is, took, end, opened, size, some, wrote) clear =
+ran M now input before copy seen (exits.Cut count) (run, is, took, end, opened, size, some, wrote, known) clear =
     let t = left_at seen input run.input clear.left took in
+    let well = left_well now input before copy seen (exits.Cut count) run clear (served_at M now seen run copy is clear.at_moment clear.begins) known in
     record {
       left = t.0;
+      after = well.after;
       all = t.2;
       small = is.small;
-      served = served_at M now run is clear.at_moment;
+      served = well.served;
       wrote = wrote_at seen before (output run.frames run.replies) clear.written wrote;
       stops = (at_end seen t.0 t.1 end, opened, size, some);
     }
-ran M now input before seen exits.Usage o clear = absurd clear.undisturbed
-ran M now input before seen exits.ReadFault o clear = absurd clear.undisturbed
-ran M now input before seen exits.WriteFault o clear = absurd clear.undisturbed
-ran M now input before seen exits.NoMemory o clear = absurd clear.undisturbed
+ran M now input before copy seen exits.Usage o clear = absurd clear.undisturbed
+ran M now input before copy seen exits.ReadFault o clear = absurd clear.undisturbed
+ran M now input before copy seen exits.WriteFault o clear = absurd clear.undisturbed
+ran M now input before copy seen exits.NoMemory o clear = absurd clear.undisturbed
+ran M now input before copy seen exits.DiskFault o clear = absurd clear.undisturbed
+ran M now input before copy seen (exits.Damaged disk place found expected) o clear = absurd clear.undisturbed
+ran M now input before copy seen (exits.Spent found) o clear = absurd clear.undisturbed
+ran M now input before copy seen (exits.OtherChain disk) o clear = absurd clear.undisturbed
+ran M now input before copy seen (exits.Full needed free) o clear = absurd clear.undisturbed
 
 -- ---- what is said of all the input
 
@@ -124,6 +183,11 @@ Says exits.Usage frames rest input = ⊥
 Says exits.ReadFault frames rest input = ⊥
 Says exits.WriteFault frames rest input = ⊥
 Says exits.NoMemory frames rest input = ⊥
+Says exits.DiskFault frames rest input = ⊥
+Says (exits.Damaged disk place found expected) frames rest input = ⊥
+Says (exits.Spent found) frames rest input = ⊥
+Says (exits.OtherChain disk) frames rest input = ⊥
+Says (exits.Full needed free) frames rest input = ⊥
 
 drains : (exit : Exit) (frames : List Frame) (rest input : List ℕ) → Says exit frames rest input → IsDrained frames rest
 drains exits.Done frames rest input (inl quit) = inl quit
@@ -135,6 +199,11 @@ drains exits.Usage frames rest input says = absurd says
 drains exits.ReadFault frames rest input says = absurd says
 drains exits.WriteFault frames rest input says = absurd says
 drains exits.NoMemory frames rest input says = absurd says
+drains exits.DiskFault frames rest input says = absurd says
+drains (exits.Damaged disk place found expected) frames rest input says = absurd says
+drains (exits.Spent found) frames rest input says = absurd says
+drains (exits.OtherChain disk) frames rest input says = absurd says
+drains (exits.Full needed free) frames rest input says = absurd says
 
 not_both : (b : Bool) → b ≡ true → b ≡ false → ⊥
 not_both b is isnt = let e : true ≡ false = sym is ∙ isnt in absurd (cc)
@@ -164,21 +233,41 @@ says_one exits.Usage end frames rest input fits a b = absurd a
 says_one exits.ReadFault end frames rest input fits a b = absurd a
 says_one exits.WriteFault end frames rest input fits a b = absurd a
 says_one exits.NoMemory end frames rest input fits a b = absurd a
+says_one exits.DiskFault end frames rest input fits a b = absurd a
+says_one (exits.Damaged disk place found expected) end frames rest input fits a b = absurd a
+says_one (exits.Spent found) end frames rest input fits a b = absurd a
+says_one (exits.OtherChain disk) end frames rest input fits a b = absurd a
+says_one (exits.Full needed free) end frames rest input fits a b = absurd a
 says_one exits.Done exits.TooLong frames rest input fits a b = absurd b
 says_one exits.Done exits.Usage frames rest input fits a b = absurd b
 says_one exits.Done exits.ReadFault frames rest input fits a b = absurd b
 says_one exits.Done exits.WriteFault frames rest input fits a b = absurd b
 says_one exits.Done exits.NoMemory frames rest input fits a b = absurd b
+says_one exits.Done exits.DiskFault frames rest input fits a b = absurd b
+says_one exits.Done (exits.Damaged disk place found expected) frames rest input fits a b = absurd b
+says_one exits.Done (exits.Spent found) frames rest input fits a b = absurd b
+says_one exits.Done (exits.OtherChain disk) frames rest input fits a b = absurd b
+says_one exits.Done (exits.Full needed free) frames rest input fits a b = absurd b
 says_one (exits.BadFrame q) exits.TooLong frames rest input fits a b = absurd b
 says_one (exits.BadFrame q) exits.Usage frames rest input fits a b = absurd b
 says_one (exits.BadFrame q) exits.ReadFault frames rest input fits a b = absurd b
 says_one (exits.BadFrame q) exits.WriteFault frames rest input fits a b = absurd b
 says_one (exits.BadFrame q) exits.NoMemory frames rest input fits a b = absurd b
+says_one (exits.BadFrame q) exits.DiskFault frames rest input fits a b = absurd b
+says_one (exits.BadFrame q) (exits.Damaged disk place found expected) frames rest input fits a b = absurd b
+says_one (exits.BadFrame q) (exits.Spent found) frames rest input fits a b = absurd b
+says_one (exits.BadFrame q) (exits.OtherChain disk) frames rest input fits a b = absurd b
+says_one (exits.BadFrame q) (exits.Full needed free) frames rest input fits a b = absurd b
 says_one (exits.Cut n) exits.TooLong frames rest input fits a b = absurd b
 says_one (exits.Cut n) exits.Usage frames rest input fits a b = absurd b
 says_one (exits.Cut n) exits.ReadFault frames rest input fits a b = absurd b
 says_one (exits.Cut n) exits.WriteFault frames rest input fits a b = absurd b
 says_one (exits.Cut n) exits.NoMemory frames rest input fits a b = absurd b
+says_one (exits.Cut n) exits.DiskFault frames rest input fits a b = absurd b
+says_one (exits.Cut n) (exits.Damaged disk place found expected) frames rest input fits a b = absurd b
+says_one (exits.Cut n) (exits.Spent found) frames rest input fits a b = absurd b
+says_one (exits.Cut n) (exits.OtherChain disk) frames rest input fits a b = absurd b
+says_one (exits.Cut n) (exits.Full needed free) frames rest input fits a b = absurd b
 
 -- ---- a run and more of the input behind it
 
@@ -216,11 +305,19 @@ says_all exits.Usage run left input all stops = absurd stops
 says_all exits.ReadFault run left input all stops = absurd stops
 says_all exits.WriteFault run left input all stops = absurd stops
 says_all exits.NoMemory run left input all stops = absurd stops
+says_all exits.DiskFault run left input all stops = absurd stops
+says_all (exits.Damaged disk place found expected) run left input all stops = absurd stops
+says_all (exits.Spent found) run left input all stops = absurd stops
+says_all (exits.OtherChain disk) run left input all stops = absurd stops
+says_all (exits.Full needed free) run left input all stops = absurd stops
 
-served_further : (now : ℕ) (run : Run) (more input : List ℕ) → IsServed now run.input run.frames run.rest run.replies → input ≡ run.input ++ more → IsServed now input run.frames (run.rest ++ more) run.replies
-served_further now run more input s all = record {
-  read = subst (λ (l : List ℕ). IsRead l run.frames (run.rest ++ more)) (sym all) (read_further run.input run.frames run.rest more s.read);
-  log = s.log;
+reads_further : (run : Run) (more input : List ℕ) → IsRead run.input run.frames run.rest → input ≡ run.input ++ more → IsRead input run.frames (run.rest ++ more)
+reads_further run more input read all = subst (λ (l : List ℕ). IsRead l run.frames (run.rest ++ more)) (sym all) (read_further run.input run.frames run.rest more read)
+
+served_further : (now : ℕ) (run : Run) (copy after : Copy Content ℕ) (more input : List ℕ) → IsServed now run.input run.frames run.rest run.replies (IsAt copy 0) (IsAt after 0) → input ≡ run.input ++ more
+    → IsServed now input run.frames (run.rest ++ more) run.replies (IsAt copy 0) (IsAt after 0)
+served_further now run copy after more input s all = record {
+  read = reads_further run more input s.read all;
   answered = s.answered;
 }
 
@@ -254,27 +351,32 @@ too_few f g left more input all also le some none =
       ap (λ (l : List ℕ). length l) none,
     )
 
-alone : (now : ℕ) (exit : Exit) (f g : Run) (left more input : List ℕ) → input ≡ f.input ++ left → input ≡ g.input ++ more → length f.input ≤ length g.input → IsServed now f.input f.frames f.rest f.replies
-    → IsServed now g.input g.frames g.rest g.replies → Stops exit f left → exit ≢ exits.TooLong → IsOpen g → 0 < length more → ⊥
-alone now exits.Done f g left more input all also le s t (inl quit) other opened some =
+alone : (exit : Exit) (f g : Run) (left more input : List ℕ) → input ≡ f.input ++ left → input ≡ g.input ++ more → length f.input ≤ length g.input → IsRead f.input f.frames f.rest
+    → IsRead g.input g.frames g.rest → Stops exit f left → exit ≢ exits.TooLong → IsOpen g → 0 < length more → ⊥
+alone exits.Done f g left more input all also le s t (inl quit) other opened some =
     let z : List ℕ = drop (length f.input) g.input in
-    let further = served_further now f z g.input s (longer f g left more input all also le) in
-    let same = one_reading g.input f.frames g.frames (f.rest ++ z) g.rest further.read (inl quit) t.read (inr (lacking_begins_none g.rest opened.lacking.0 opened.lacking.1)) in
+    let further = reads_further f z g.input s (longer f g left more input all also le) in
+    let same = one_reading g.input f.frames g.frames (f.rest ++ z) g.rest further (inl quit) t (inr (lacking_begins_none g.rest opened.lacking.0 opened.lacking.1)) in
     not_both (quit_came g.frames) (ap quit_came (sym same.0) ∙ quit) opened.no_quit
-alone now exits.Done f g left more input all also le s t (inr (none, end)) other opened some = too_few f g left more input all also le some end
-alone now (exits.BadFrame place) f g left more input all also le s t (offset, fault, going, bad, at) other opened some =
+alone exits.Done f g left more input all also le s t (inr (none, end)) other opened some = too_few f g left more input all also le some end
+alone (exits.BadFrame place) f g left more input all also le s t (offset, fault, going, bad, at) other opened some =
     let z : List ℕ = drop (length f.input) g.input in
-    let further = served_further now f z g.input s (longer f g left more input all also le) in
+    let further = reads_further f z g.input s (longer f g left more input all also le) in
     let still : IsBad Requests (f.rest ++ z) offset fault = still_bad Requests f.rest z offset fault bad in
     let same =
-    one_reading g.input f.frames g.frames (f.rest ++ z) g.rest further.read (inr (bad_begins_none (f.rest ++ z) offset fault still)) t.read (inr (lacking_begins_none g.rest opened.lacking.0 opened.lacking.1)) in
+    one_reading g.input f.frames g.frames (f.rest ++ z) g.rest further (inr (bad_begins_none (f.rest ++ z) offset fault still)) t (inr (lacking_begins_none g.rest opened.lacking.0 opened.lacking.1)) in
     lacking_not_bad Requests g.rest opened.lacking.0 offset fault opened.lacking.1 (subst (λ (l : List ℕ). IsBad Requests l offset fault) same.1 still)
-alone now (exits.Cut count) f g left more input all also le s t (end, closed, size, long) other opened some = too_few f g left more input all also le some end
-alone now exits.TooLong f g left more input all also le s t stops other opened some = other refl
-alone now exits.Usage f g left more input all also le s t stops other opened some = stops
-alone now exits.ReadFault f g left more input all also le s t stops other opened some = stops
-alone now exits.WriteFault f g left more input all also le s t stops other opened some = stops
-alone now exits.NoMemory f g left more input all also le s t stops other opened some = stops
+alone (exits.Cut count) f g left more input all also le s t (end, closed, size, long) other opened some = too_few f g left more input all also le some end
+alone exits.TooLong f g left more input all also le s t stops other opened some = other refl
+alone exits.Usage f g left more input all also le s t stops other opened some = stops
+alone exits.ReadFault f g left more input all also le s t stops other opened some = stops
+alone exits.WriteFault f g left more input all also le s t stops other opened some = stops
+alone exits.NoMemory f g left more input all also le s t stops other opened some = stops
+alone exits.DiskFault f g left more input all also le s t stops other opened some = stops
+alone (exits.Damaged disk place found expected) f g left more input all also le s t stops other opened some = stops
+alone (exits.Spent found) f g left more input all also le s t stops other opened some = stops
+alone (exits.OtherChain disk) f g left more input all also le s t stops other opened some = stops
+alone (exits.Full needed free) f g left more input all also le s t stops other opened some = stops
 
 -- what isn't said of a run that took as much as is taken
 says_short : (exit : Exit) (frames : List Frame) (rest input : List ℕ) → Says exit frames rest input → exit ≢ exits.TooLong
@@ -286,13 +388,13 @@ says_short exit frames rest input says e = subst (λ (x : Exit). Says x frames r
 abbrev Alike : Seen → Seen → Exit → Exit → Type 0
 Alike seen other exit end = (exit ≡ end) × (seen.written_now ≡ other.written_now)
 
-both_say : (now : ℕ) (input before : List ℕ) (seen other : Seen) (exit end : Exit) (f g : Run) → IsBytes input → (a : Ran now input before seen exit f) → (b : Ran now input before other end g)
+both_say : (now : ℕ) (input before : List ℕ) (copy : Copy Content ℕ) (seen other : Seen) (exit end : Exit) (f g : Run) → IsBytes input → (a : Ran now input before copy seen exit f) → (b : Ran now input before copy other end g)
     → AreGiven f.replies → AreGiven g.replies → Says exit f.frames (f.rest ++ a.left) input → Says end g.frames (g.rest ++ b.left) input → Alike seen other exit end
-both_say now input before seen other exit end f g fits a b given told s t =
-    let one = served_further now f a.left input a.served a.all in
-    let two = served_further now g b.left input b.served b.all in
+both_say now input before copy seen other exit end f g fits a b given told s t =
+    let one = served_further now f copy a.after a.left input a.served a.all in
+    let two = served_further now g copy b.after b.left input b.served b.all in
     let same =
-    same_served now input f.frames g.frames (f.rest ++ a.left) (g.rest ++ b.left) f.replies g.replies one (drains exit f.frames (f.rest ++ a.left) input s) two (drains end g.frames (g.rest ++ b.left) input t)
+    same_served now input f.frames g.frames (f.rest ++ a.left) (g.rest ++ b.left) f.replies g.replies copy a.after b.after one (drains exit f.frames (f.rest ++ a.left) input s) two (drains end g.frames (g.rest ++ b.left) input t)
     given told in
     let moved : Says end f.frames (f.rest ++ a.left) input =
     subst (λ (r : List ℕ). Says end f.frames r input) (sym same.1) (subst (λ (fs : List Frame). Says end fs (g.rest ++ b.left) input) (sym same.0) t) in (
@@ -300,33 +402,34 @@ both_say now input before seen other exit end f g fits a b given told s t =
       a.wrote ∙ ap (λ (out : List ℕ). Some (before ++ out)) same.2 ∙ sym b.wrote,
     )
 
-both_long : (now : ℕ) (input before : List ℕ) (seen other : Seen) (exit end : Exit) (f g : Run) → (a : Ran now input before seen exit f) → (b : Ran now input before other end g) → AreGiven f.replies → AreGiven g.replies
+both_long : (now : ℕ) (input before : List ℕ) (copy : Copy Content ℕ) (seen other : Seen) (exit end : Exit) (f g : Run) → (a : Ran now input before copy seen exit f) → (b : Ran now input before copy other end g) → AreGiven f.replies → AreGiven g.replies
     → TookLimit exit f a.left → TookLimit end g b.left → Alike seen other exit end
-both_long now input before seen other exit end f g a b given told r u =
+both_long now input before copy seen other exit end f g a b given told r u =
     let taken : f.input ≡ g.input = sym (front_is f a.left input a.all) ∙ ap (λ (n : ℕ). take n input) (r.whole ∙ sym u.whole) ∙ front_is g b.left input b.all in
-    let two : IsServed now f.input g.frames g.rest g.replies = subst (λ (l : List ℕ). IsServed now l g.frames g.rest g.replies) (sym taken) b.served in
+    let two : IsServed now f.input g.frames g.rest g.replies (IsAt copy 0) (IsAt b.after 0) =
+    subst (λ (l : List ℕ). IsServed now l g.frames g.rest g.replies (IsAt copy 0) (IsAt b.after 0)) (sym taken) b.served in
     let same =
-    same_served now f.input f.frames g.frames f.rest g.rest f.replies g.replies a.served (inr (lacking_begins_none f.rest r.opened.lacking.0 r.opened.lacking.1)) two (inr (lacking_begins_none g.rest u.opened.lacking.0 u.opened.lacking.1))
+    same_served now f.input f.frames g.frames f.rest g.rest f.replies g.replies copy a.after b.after a.served (inr (lacking_begins_none f.rest r.opened.lacking.0 r.opened.lacking.1)) two (inr (lacking_begins_none g.rest u.opened.lacking.0 u.opened.lacking.1))
     given told in (
       r.is ∙ sym u.is,
       a.wrote ∙ ap (λ (out : List ℕ). Some (before ++ out)) same.2 ∙ sym b.wrote,
     )
 
-both_ran : (now : ℕ) (input before : List ℕ) (seen other : Seen) (exit end : Exit) (f g : Run) → IsBytes input → (a : Ran now input before seen exit f) → (b : Ran now input before other end g)
+both_ran : (now : ℕ) (input before : List ℕ) (copy : Copy Content ℕ) (seen other : Seen) (exit end : Exit) (f g : Run) → IsBytes input → (a : Ran now input before copy seen exit f) → (b : Ran now input before copy other end g)
     → AreGiven f.replies → AreGiven g.replies → Alike seen other exit end
-both_ran now input before seen other exit end f g fits a b given told =
+both_ran now input before copy seen other exit end f g fits a b given told =
     elim (says_all exit f a.left input a.all a.stops) [
       | inl s ↦ elim (says_all end g b.left input b.all b.stops) [
-        | inl t ↦ both_say now input before seen other exit end f g fits a b given told s t
-        | inr u ↦ absurd (alone now exit f g a.left b.left input a.all b.all (omega (arith, a.small, u.whole)) a.served b.served a.stops (says_short exit f.frames (f.rest ++ a.left) input s) u.opened u.more)
+        | inl t ↦ both_say now input before copy seen other exit end f g fits a b given told s t
+        | inr u ↦ absurd (alone exit f g a.left b.left input a.all b.all (omega (arith, a.small, u.whole)) a.served.read b.served.read a.stops (says_short exit f.frames (f.rest ++ a.left) input s) u.opened u.more)
       ]
       | inr r ↦ elim (says_all end g b.left input b.all b.stops) [
-        | inl t ↦ absurd (alone now end g f b.left a.left input b.all a.all (omega (arith, b.small, r.whole)) b.served a.served b.stops (says_short end g.frames (g.rest ++ b.left) input t) r.opened r.more)
-        | inr u ↦ both_long now input before seen other exit end f g a b given told r u
+        | inl t ↦ absurd (alone end g f b.left a.left input b.all a.all (omega (arith, b.small, r.whole)) b.served.read a.served.read b.stops (says_short end g.frames (g.rest ++ b.left) input t) r.opened r.more)
+        | inr u ↦ both_long now input before copy seen other exit end f g a b given told r u
       ]
     ]
 
-pub same_output : (M N : ℕ → Type 0) (now : ℕ) (input before : List ℕ) (seen other : Seen) (exit end : Exit) (one : Outcome M seen exit) (two : Outcome N other end) → IsBytes input
-    → IsClear now input before seen exit (run_of M seen exit one) → IsClear now input before other end (run_of N other end two) → (exit ≡ end) × (seen.written_now ≡ other.written_now)
-same_output M N now input before seen other exit end one two fits clear also =
-    both_ran now input before seen other exit end (run_of M seen exit one) (run_of N other end two) fits (ran M now input before seen exit one clear) (ran N now input before other end two also) clear.given also.given
+pub same_output : (M N : ℕ → Type 0) (now : ℕ) (input before : List ℕ) (copy : Copy Content ℕ) (seen other : Seen) (exit end : Exit) (one : Outcome M seen exit) (two : Outcome N other end) → IsBytes input
+    → IsClear now input before copy seen exit (run_of M seen exit one) → IsClear now input before copy other end (run_of N other end two) → (exit ≡ end) × (seen.written_now ≡ other.written_now)
+same_output M N now input before copy seen other exit end one two fits clear also =
+    both_ran now input before copy seen other exit end (run_of M seen exit one) (run_of N other end two) fits (ran M now input before copy seen exit one clear) (ran N now input before copy other end two also) clear.given also.given

@@ -1,7 +1,13 @@
+pub mod Alike
 pub mod Answering
+pub mod Asked
+pub mod Beginning
+pub mod Closing
 pub mod Counting
 pub mod Ending
+pub mod Left
+pub mod Called
+pub mod Opened
+pub mod Piped
 pub mod Running
 pub mod Same
-pub mod Snoc
-pub mod Alike

@@ -1,4 +1,5 @@
-pub mod Pipe
+pub mod Course
+pub mod Disks
 pub mod Outcomes
 pub mod Progress
 pub mod Statuses

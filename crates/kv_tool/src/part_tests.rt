@@ -1,5 +1,6 @@
 //! Requests on several parts of a document and on its attributes, frame by frame.
 use crate::run_offline;
+use crate::tests::empty_disks;
 use hex_rows::bytes_of;
 use kv_edge::{Bytes, MemClock, MemSink, MemSource};
 use std::alloc::Global;
@@ -723,7 +724,8 @@ fn holds(alloc: Global, words: &[String], row: Row) -> Result<bool, Fail> {
     let mut source = MemSource::new(Bytes::from_vec(input), 65_536, Vec::new(alloc));
     let mut sink = MemSink::new(alloc, 65_536, Vec::new(alloc));
     let mut clock = MemClock::new(0);
-    run_offline(alloc, words, &mut source, &mut sink, &mut clock);
+    let disks = empty_disks(alloc)?;
+    run_offline(alloc, words, &mut source, &mut sink, disks, &mut clock);
     Ok(sink.bytes() == output.as_slice())
 }
 

@@ -1,21 +1,22 @@
-ghost use Rattle.std.specs.Prelude.{None, true};
+ghost use Rattle.std.specs.Prelude.{◌≡◌, None, true, length, IfOk};
 
 use crate::{Exit, run_offline};
 use kv_edge::{Bytes, Clock, MemClock, MemSink, MemSource, Put, Sink, Source, Taken};
-use std::alloc::Global;
+use magma_disk::MemDisk;
+use std::alloc::{AllocError, Global};
 use std::cell::Cell;
 use std::process::Abort;
 use std::test::Fail;
 
 // How the source and the sink of a run behave.
 #[derive(Clone, Copy)]
-struct Outside {
-    most_a_call: usize,
-    failing_read: Option<u64>,
-    failing_write: Option<u64>,
+pub(crate) struct Outside {
+    pub(crate) most_a_call: usize,
+    pub(crate) failing_read: Option<u64>,
+    pub(crate) failing_write: Option<u64>,
 }
 
-const WHOLE: Outside = Outside {
+pub(crate) const WHOLE: Outside = Outside {
     most_a_call: 1 << 20,
     failing_read: None,
     failing_write: None,
@@ -27,26 +28,26 @@ const IN_BYTES: Outside = Outside {
     failing_write: None,
 };
 
-const GET: &str = "80 00 0001 00 00 0000 00000001 deadbeef 0000000000000000 61";
+pub(crate) const GET: &str = "80 00 0001 00 00 0000 00000001 deadbeef 0000000000000000 61";
 
-const CUT_GET: &str = "80 00 0001 00 00 0000 00000001 deadbeef 00000000000000";
+pub(crate) const CUT_GET: &str = "80 00 0001 00 00 0000 00000001 deadbeef 00000000000000";
 
-const NOT_FOUND: &str = "81 00 0000 00 00 0001 00000000 deadbeef 0000000000000000";
+pub(crate) const NOT_FOUND: &str = "81 00 0000 00 00 0001 00000000 deadbeef 0000000000000000";
 
-const SET: &str =
+pub(crate) const SET: &str =
     "80 01 0001 08 00 0000 0000000b 00000001 0000000000000000 0000002a 00000000 61 6869";
 
-const WAS_SET: &str = "81 01 0000 00 00 0000 00000000 00000001 0000000000000001";
+pub(crate) const WAS_SET: &str = "81 01 0000 00 00 0000 00000000 00000001 0000000000000001";
 
 const WAS_SET_WITH_TOKEN: &str = "\
     81 01 0000 10 00 0000 00000010 00000001 0000000000000001 \
     0000000000000004 0000000000000001";
 
-const SET_AND_GET: &str = "\
+pub(crate) const SET_AND_GET: &str = "\
     80 01 0001 08 00 0000 0000000b 00000001 0000000000000000 0000002a 00000000 61 6869 \
     80 00 0001 00 00 0000 00000001 00000002 0000000000000000 61";
 
-const WAS_SET_AND_FOUND: &str = "\
+pub(crate) const WAS_SET_AND_FOUND: &str = "\
     81 01 0000 00 00 0000 00000000 00000001 0000000000000001 \
     81 00 0000 04 00 0000 00000006 00000002 0000000000000001 0000002a 6869";
 
@@ -147,7 +148,7 @@ fn add_row(alloc: Global, bytes: &mut Vec<u8>, row: &str) -> Result<(), Fail> {
 }
 
 // The bytes of texts, one behind the other.
-fn bytes_of(alloc: Global, texts: &[&str]) -> Result<Vec<u8>, Fail> {
+pub(crate) fn bytes_of(alloc: Global, texts: &[&str]) -> Result<Vec<u8>, Fail> {
     let mut bytes = Vec::new(alloc);
     for text in texts {
         add_row(alloc, &mut bytes, text)?;
@@ -163,6 +164,26 @@ fn words_of(alloc: Global, texts: &[&str]) -> Result<Vec<String>, Fail> {
     Ok(words)
 }
 
+// Four disks: this one, and three without a byte.
+pub(crate) fn disks_behind(alloc: Global, first: MemDisk) -> Result<Vec<MemDisk>, AllocError>
+    ensures { IfOk result (λ disks. length disks.items ≡ 4) }
+{
+    vec![in alloc;
+        first,
+        MemDisk::new(alloc, Vec::new(alloc)),
+        MemDisk::new(alloc, Vec::new(alloc)),
+        MemDisk::new(alloc, Vec::new(alloc)),
+    ]
+    .map_err(|_refused| AllocError)
+}
+
+// Four disks without a byte.
+pub(crate) fn empty_disks(alloc: Global) -> Result<Vec<MemDisk>, AllocError>
+    ensures { IfOk result (λ disks. length disks.items ≡ 4) }
+{
+    disks_behind(alloc, MemDisk::new(alloc, Vec::new(alloc)))
+}
+
 fn numbers(alloc: Global, number: Option<u64>) -> Result<Vec<u64>, Fail> {
     let mut numbers = Vec::new(alloc);
     if let Some(number) = number {
@@ -171,13 +192,27 @@ fn numbers(alloc: Global, number: Option<u64>) -> Result<Vec<u64>, Fail> {
     Ok(numbers)
 }
 
-// What the words come to over the input, and what is written.
+// What the words come to over the input and empty disks, and what is written.
 fn run(
     alloc: Global,
     words: &[&str],
     input: Vec<u8>,
     outside: Outside,
 ) -> Result<(Exit, MemSink), Fail> {
+    let (exit, sink, _) = run_on(alloc, words, input, outside, empty_disks(alloc)?)?;
+    Ok((exit, sink))
+}
+
+// What the words come to over the input and these disks, what is written, and the disks then.
+pub(crate) fn run_on(
+    alloc: Global,
+    words: &[&str],
+    input: Vec<u8>,
+    outside: Outside,
+    disks: Vec<MemDisk>,
+) -> Result<(Exit, MemSink, Vec<MemDisk>), Fail>
+    requires { length disks.items ≡ 4 }
+{
     let words = words_of(alloc, words)?;
     let failing_reads = numbers(alloc, outside.failing_read)?;
     let failing_writes = numbers(alloc, outside.failing_write)?;
@@ -185,8 +220,8 @@ fn run(
     let mut source = MemSource::new(Bytes::from_vec(input), most, failing_reads);
     let mut sink = MemSink::new(alloc, most, failing_writes);
     let mut clock = MemClock::new(0);
-    let exit = run_offline(alloc, &words, &mut source, &mut sink, &mut clock);
-    Ok((exit, sink))
+    let (exit, disks) = run_offline(alloc, &words, &mut source, &mut sink, disks, &mut clock);
+    Ok((exit, sink, disks))
 }
 
 // Asserts that the frames of an input are answered so, read whole and byte by byte.
@@ -542,7 +577,8 @@ fn the_clock_is_read_once_and_nothing_behind_the_end(rt: HostRuntime) -> Result<
         let mut source = Repeating { frame, calls: 0 };
         let mut sink = MemSink::new(alloc, 1 << 20, Vec::new(alloc));
         let mut clock = Counting { calls: 0 };
-        let exit = run_offline(alloc, &words, &mut source, &mut sink, &mut clock);
+        let disks = empty_disks(alloc)?;
+        let (exit, _) = run_offline(alloc, &words, &mut source, &mut sink, disks, &mut clock);
         let output = bytes_of(alloc, replies)?;
         assert_eq!(rt; exit, wanted);
         assert_eq!(rt; sink.bytes(), output.as_slice());
@@ -610,16 +646,36 @@ fn replies_are_written_before_more_is_asked_for(rt: HostRuntime) -> Result<(), F
         early: false,
     };
     let mut sink = Telling { written: &written };
-    let exit = run_offline(alloc, &words, &mut source, &mut sink, &mut MemClock::new(0));
+    let disks = empty_disks(alloc)?;
+    let mut clock = MemClock::new(0);
+    let (exit, _) = run_offline(alloc, &words, &mut source, &mut sink, disks, &mut clock);
     assert_eq!(rt; exit, Exit::Done);
     assert_eq!(rt; (source.early, written.get()), (false, 72));
     Ok(())
 }
 
 #[test]
+fn the_file_of_pipe_is_not_looked_at(rt: HostRuntime) -> Result<(), Fail> {
+    let alloc = rt.alloc();
+    let input = bytes_of(alloc, &[SET_AND_GET])?;
+    let output = bytes_of(alloc, &[WAS_SET_AND_FOUND])?;
+    let (exit, sink) = run(alloc, &["pipe", "store"], input, WHOLE)?;
+    assert_eq!(rt; exit, Exit::Done);
+    assert_eq!(rt; sink.bytes(), output.as_slice());
+    Ok(())
+}
+
+#[test]
 fn other_words_are_told(rt: HostRuntime) -> Result<(), Fail> {
     let alloc = rt.alloc();
-    let cases: [&[&str]; 4] = [&["replay", "now"], &[], &["pipes"], &["pipe", "pipe"]];
+    let cases: [&[&str]; 6] = [
+        &["replay", "now"],
+        &[],
+        &["pipes"],
+        &["pipes", "store"],
+        &["pipe", ""],
+        &["pipe", "store", "store"],
+    ];
     for words in cases {
         let (exit, sink) = run(alloc, words, bytes_of(alloc, &[GET])?, WHOLE)?;
         assert_eq!(rt; exit, Exit::Usage);
@@ -664,9 +720,23 @@ fn exits_have_names_and_statuses(rt: HostRuntime) -> Result<(), Fail> {
         (Exit::ReadFault, "ReadFault", 2),
         (Exit::WriteFault, "WriteFault", 3),
         (Exit::NoMemory, "NoMemory", 4),
+        (Exit::DiskFault, "DiskFault", 5),
+        (
+            Exit::Damaged {
+                disk: 0,
+                place: 9,
+                found: 7,
+                expected: 8,
+            },
+            "Damaged 0 9 7 8",
+            6,
+        ),
         (Exit::TooLong, "TooLong", 7),
         (Exit::BadFrame(25), "BadFrame 25", 9),
         (Exit::Cut(23), "Cut 23", 10),
+        (Exit::Spent(5), "Spent 5", 11),
+        (Exit::OtherChain(0), "OtherChain 0", 12),
+        (Exit::Full { needed: 3, free: 2 }, "Full 3 2", 13),
     ] {
         assert_eq!(rt; format!(in alloc; "{exit}")?.as_str(), name);
         assert_eq!(rt; exit.status(), status);

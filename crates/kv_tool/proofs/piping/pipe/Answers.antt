@@ -1,72 +1,147 @@
-use Rattle.std.proofs.Common.{◌+◌, ◌≤◌, length, Some, refl, ap, arith}
-use Rattle.kv_edge.proofs.Known.{then_rose}
-use Rattle.kv_session.specs.Session.{Line}
-use Rattle.kv_tool.specs.declared.piping.TheConstants.{INPUT_LIMIT}
+use Rattle.std.proofs.Common.{◌≡◌, ℕ, List}
+use Rattle.magma_disk.specs.Device.{Device}
 use Rattle.kv_tool.specs.Outcomes.{Seen}
-use Rattle.kv_tool.proofs.Ending.{never_starts, starts_paused, takes_piece, read_failed, input_ended, stays_left, exceeds}
+use Rattle.kv_tool.specs.Progress.{StopsWith}
+use Rattle.kv_tool.proofs.Closing.{unopened, closes_outcome, IsOfClosing, of_closing}
+use Rattle.kv_tool.proofs.Piped.{opened_is, refused_is, moments_back, counted_as, stops_opened, counts_all}
 use Rattle.kv_tool.proofs.piping.pipe.Goals as goal
 
-pub returns-in_default-clause-outcome : goal.returns-in_default-clause-outcome
-returns-in_default-clause-outcome g c = never_starts c.args.now (g.S.Source.left c.args.source.now) (g.K.Sink.written c.args.sink.now)
+pub returns-in-None-clause-outcome : goal.returns-in-None-clause-outcome
+returns-in-None-clause-outcome g c =
+    let states = g.D.Disk.states in
+    let counts = g.D.Disk.counts in
+    let seen : List Device → ℕ → Seen = λ before faults. record {
+      left_before = g.S.Source.left c.args.source.now;
+      left_now = g.S.Source.left c.serve-came_to.new.source;
+      written_before = g.K.Sink.written c.args.sink.now;
+      written_now = g.K.Sink.written c.serve-came_to.new.sink;
+      disk_before = before;
+      disk_now = states c.serve-came_to.new.connection.vb.store.disk;
+      faults_before = faults;
+      faults_now = (counts c.serve-came_to.new.connection.vb.store.disk).faults;
+    } in
+    let opening = counted_as counts (counts c.args.disk) _ c.opened-opened.result.0 c.in-Ok.vb c.in-Ok.is c.opened-opened.ensures.counts in
+    let stops : StopsWith states counts c.args.now (seen (states c.args.disk) (counts c.args.disk).faults) c.serve-came_to.new.connection.vb c.serve-came_to.result =
+    stops_opened states counts (states c.args.disk) (counts c.args.disk).faults c.in-Ok.vb c.open-connection.result.vb
+    (λ before faults. StopsWith states counts c.args.now (seen before faults) c.serve-came_to.new.connection.vb c.serve-came_to.result)
+    c.open-connection.ensures.vb
+    (opened_is states (states c.args.disk) c.opened-opened.result.0 c.in-Ok.vb c.in-Ok.is c.opened-opened.ensures.opens)
+    opening.faults.no_lower
+    c.serve-came_to.ensures.stops in
+    closes_outcome states counts c.args.now (seen (states c.args.disk) (counts c.args.disk).faults) c.serve-came_to.new.connection.vb c.close-exit.new.self.vb c.serve-came_to.result c.close-exit.result c.into_disk.result
+    c.into_disk.ensures.disk (record { holds = c.into_disk.ensures.leaves; sound = c.into_disk.ensures.sound }) stops c.close-exit.ensures.closes
 
-pub loop-buffer-init : goal.loop-buffer-init
-loop-buffer-init g c =
-    let fresh = c.in-Ok.ensures in
-    record {
-      pauses = starts_paused c.args.now (g.S.Source.left c.args.source.now) (g.K.Sink.written c.args.sink.now) c.in-Ok.connection fresh;
-      held = omega (arith, ap (λ (l : Line). length l.held) fresh.session);
-      fed = omega (arith, fresh.fed);
-      size = refl;
-      reads_counted = omega arith;
-      writes_counted = omega arith;
-    }
+pub returns-in-None-clause-served : goal.returns-in-None-clause-served
+returns-in-None-clause-served g c =
+    let states = g.D.Disk.states in
+    let counts = g.D.Disk.counts in
+    let seen : List Device → ℕ → Seen = λ before faults. record {
+      left_before = g.S.Source.left c.args.source.now;
+      left_now = g.S.Source.left c.serve-came_to.new.source;
+      written_before = g.K.Sink.written c.args.sink.now;
+      written_now = g.K.Sink.written c.serve-came_to.new.sink;
+      disk_before = before;
+      disk_now = states c.serve-came_to.new.connection.vb.store.disk;
+      faults_before = faults;
+      faults_now = (counts c.serve-came_to.new.connection.vb.store.disk).faults;
+    } in
+    let opening = counted_as counts (counts c.args.disk) _ c.opened-opened.result.0 c.in-Ok.vb c.in-Ok.is c.opened-opened.ensures.counts in
+    let stops : StopsWith states counts c.args.now (seen (states c.args.disk) (counts c.args.disk).faults) c.serve-came_to.new.connection.vb c.serve-came_to.result =
+    stops_opened states counts (states c.args.disk) (counts c.args.disk).faults c.in-Ok.vb c.open-connection.result.vb
+    (λ before faults. StopsWith states counts c.args.now (seen before faults) c.serve-came_to.new.connection.vb c.serve-came_to.result)
+    c.open-connection.ensures.vb
+    (opened_is states (states c.args.disk) c.opened-opened.result.0 c.in-Ok.vb c.in-Ok.is c.opened-opened.ensures.opens)
+    opening.faults.no_lower
+    c.serve-came_to.ensures.stops in
+    let of : IsOfClosing c.serve-came_to.result c.close-exit.result =
+    of_closing states counts c.args.now (seen (states c.args.disk) (counts c.args.disk).faults) c.serve-came_to.new.connection.vb c.close-exit.new.self.vb c.serve-came_to.result c.close-exit.result stops c.close-exit.ensures.closes in
+    of.served
 
-pub loop-buffer-preserved : goal.loop-buffer-preserved
-loop-buffer-preserved g c =
-    let seen : Seen = record { left_before = g.S.Source.left c.args.source.now; left_now = g.S.Source.left c.loop-buffer.source; written_before = g.K.Sink.written c.args.sink.now; written_now = g.K.Sink.written c.loop-buffer.sink } in
-    let left = g.S.Source.left c.read_piece.new.source in
-    let small : c.loop-buffer.connection.fed + length c.split_at.result.0.now ≤ INPUT_LIMIT = omega (arith, c.in-Got.ensures.within, c.split_at.ensures.front_len, c.loop-buffer.invariant.fed, c.fed-room.ensures) in
-    let served = c.in-None.ensures.serves (record seen { left_now = left })
-    (takes_piece c.args.now seen c.loop-buffer.connection left c.read_piece.new.buffer c.split_at.result.0.now c.in-Got.count c.loop-buffer.invariant.pauses c.in-Got.ensures.bytes c.split_at.ensures.front small) in
-    record {
-      pauses = record { progress = served.0; waits = served.1; empty = served.2 };
-      held = c.in-None.ensures.held refl;
-      fed = omega (arith, c.in-None.ensures.fed refl, small);
-      size = omega (arith, c.read_piece.auto.buffer, c.loop-buffer.invariant.size);
-      reads_counted = omega (arith, c.in-Got.ensures.counted, c.loop-buffer.invariant.reads_counted);
-      writes_counted = omega (arith, c.in-None.ensures.counted, c.loop-buffer.invariant.writes_counted);
-    }
+pub returns-in-None-clause-read_cause : goal.returns-in-None-clause-read_cause
+returns-in-None-clause-read_cause g c =
+    let states = g.D.Disk.states in
+    let counts = g.D.Disk.counts in
+    let seen : List Device → ℕ → Seen = λ before faults. record {
+      left_before = g.S.Source.left c.args.source.now;
+      left_now = g.S.Source.left c.serve-came_to.new.source;
+      written_before = g.K.Sink.written c.args.sink.now;
+      written_now = g.K.Sink.written c.serve-came_to.new.sink;
+      disk_before = before;
+      disk_now = states c.serve-came_to.new.connection.vb.store.disk;
+      faults_before = faults;
+      faults_now = (counts c.serve-came_to.new.connection.vb.store.disk).faults;
+    } in
+    let opening = counted_as counts (counts c.args.disk) _ c.opened-opened.result.0 c.in-Ok.vb c.in-Ok.is c.opened-opened.ensures.counts in
+    let stops : StopsWith states counts c.args.now (seen (states c.args.disk) (counts c.args.disk).faults) c.serve-came_to.new.connection.vb c.serve-came_to.result =
+    stops_opened states counts (states c.args.disk) (counts c.args.disk).faults c.in-Ok.vb c.open-connection.result.vb
+    (λ before faults. StopsWith states counts c.args.now (seen before faults) c.serve-came_to.new.connection.vb c.serve-came_to.result)
+    c.open-connection.ensures.vb
+    (opened_is states (states c.args.disk) c.opened-opened.result.0 c.in-Ok.vb c.in-Ok.is c.opened-opened.ensures.opens)
+    opening.faults.no_lower
+    c.serve-came_to.ensures.stops in
+    let of : IsOfClosing c.serve-came_to.result c.close-exit.result =
+    of_closing states counts c.args.now (seen (states c.args.disk) (counts c.args.disk).faults) c.serve-came_to.new.connection.vb c.close-exit.new.self.vb c.serve-came_to.result c.close-exit.result stops c.close-exit.ensures.closes in
+    λ e. c.serve-came_to.ensures.read_cause (of.reads e)
 
-pub returns-in-Some : goal.returns-in-Some
-returns-in-Some g c =
-    let seen : Seen = record { left_before = g.S.Source.left c.args.source.now; left_now = g.S.Source.left c.loop-buffer.source; written_before = g.K.Sink.written c.args.sink.now; written_now = g.K.Sink.written c.loop-buffer.sink } in
-    let left = g.S.Source.left c.read_piece.new.source in
-    let small : c.loop-buffer.connection.fed + length c.split_at.result.0.now ≤ INPUT_LIMIT = omega (arith, c.in-Got.ensures.within, c.split_at.ensures.front_len, c.loop-buffer.invariant.fed, c.fed-room.ensures) in
-    let served = c.in-Some.ensures.serves (record seen { left_now = left })
-    (takes_piece c.args.now seen c.loop-buffer.connection left c.read_piece.new.buffer c.split_at.result.0.now c.in-Got.count c.loop-buffer.invariant.pauses c.in-Got.ensures.bytes c.split_at.ensures.front small) in
-    record {
-      outcome = served.0;
-      served = served.1;
-      reads_counted = omega (arith, c.in-Got.ensures.counted, c.loop-buffer.invariant.reads_counted);
-      writes_counted = omega (arith, c.in-Some.ensures.counted, c.loop-buffer.invariant.writes_counted);
-      read_cause = λ e. absurd (served.2 e);
-      write_cause = λ e. then_rose (g.K.Sink.faults c.args.sink.now) (g.K.Sink.faults c.loop-buffer.sink) (g.K.Sink.faults c.take_piece.new.sink) c.loop-buffer.invariant.writes_counted (c.in-Some.ensures.cause (ap Some e));
-    }
+pub returns-in-None-clause-write_cause : goal.returns-in-None-clause-write_cause
+returns-in-None-clause-write_cause g c =
+    let states = g.D.Disk.states in
+    let counts = g.D.Disk.counts in
+    let seen : List Device → ℕ → Seen = λ before faults. record {
+      left_before = g.S.Source.left c.args.source.now;
+      left_now = g.S.Source.left c.serve-came_to.new.source;
+      written_before = g.K.Sink.written c.args.sink.now;
+      written_now = g.K.Sink.written c.serve-came_to.new.sink;
+      disk_before = before;
+      disk_now = states c.serve-came_to.new.connection.vb.store.disk;
+      faults_before = faults;
+      faults_now = (counts c.serve-came_to.new.connection.vb.store.disk).faults;
+    } in
+    let opening = counted_as counts (counts c.args.disk) _ c.opened-opened.result.0 c.in-Ok.vb c.in-Ok.is c.opened-opened.ensures.counts in
+    let stops : StopsWith states counts c.args.now (seen (states c.args.disk) (counts c.args.disk).faults) c.serve-came_to.new.connection.vb c.serve-came_to.result =
+    stops_opened states counts (states c.args.disk) (counts c.args.disk).faults c.in-Ok.vb c.open-connection.result.vb
+    (λ before faults. StopsWith states counts c.args.now (seen before faults) c.serve-came_to.new.connection.vb c.serve-came_to.result)
+    c.open-connection.ensures.vb
+    (opened_is states (states c.args.disk) c.opened-opened.result.0 c.in-Ok.vb c.in-Ok.is c.opened-opened.ensures.opens)
+    opening.faults.no_lower
+    c.serve-came_to.ensures.stops in
+    let of : IsOfClosing c.serve-came_to.result c.close-exit.result =
+    of_closing states counts c.args.now (seen (states c.args.disk) (counts c.args.disk).faults) c.serve-came_to.new.connection.vb c.close-exit.new.self.vb c.serve-came_to.result c.close-exit.result stops c.close-exit.ensures.closes in
+    λ e. c.serve-came_to.ensures.write_cause (of.writes e)
 
-pub returns-in-End-clause-outcome : goal.returns-in-End-clause-outcome
-returns-in-End-clause-outcome g c =
-    let seen : Seen = record { left_before = g.S.Source.left c.args.source.now; left_now = g.S.Source.left c.loop-buffer.source; written_before = g.K.Sink.written c.args.sink.now; written_now = g.K.Sink.written c.loop-buffer.sink } in
-    let left = g.S.Source.left c.read_piece.new.source in
-    let bytes = c.in-End.ensures.bytes in
-    input_ended c.args.now (record seen { left_now = left }) c.loop-buffer.connection c.at_end.result (stays_left c.args.now seen c.loop-buffer.connection left c.loop-buffer.invariant.pauses bytes.0) bytes.1 c.at_end.ensures
+pub returns-in-None-clause-disk_counted : goal.returns-in-None-clause-disk_counted
+returns-in-None-clause-disk_counted g c =
+    let states = g.D.Disk.states in
+    let counts = g.D.Disk.counts in
+    let seen : List Device → ℕ → Seen = λ before faults. record {
+      left_before = g.S.Source.left c.args.source.now;
+      left_now = g.S.Source.left c.serve-came_to.new.source;
+      written_before = g.K.Sink.written c.args.sink.now;
+      written_now = g.K.Sink.written c.serve-came_to.new.sink;
+      disk_before = before;
+      disk_now = states c.serve-came_to.new.connection.vb.store.disk;
+      faults_before = faults;
+      faults_now = (counts c.serve-came_to.new.connection.vb.store.disk).faults;
+    } in
+    let opening = counted_as counts (counts c.args.disk) _ c.opened-opened.result.0 c.in-Ok.vb c.in-Ok.is c.opened-opened.ensures.counts in
+    let stops : StopsWith states counts c.args.now (seen (states c.args.disk) (counts c.args.disk).faults) c.serve-came_to.new.connection.vb c.serve-came_to.result =
+    stops_opened states counts (states c.args.disk) (counts c.args.disk).faults c.in-Ok.vb c.open-connection.result.vb
+    (λ before faults. StopsWith states counts c.args.now (seen before faults) c.serve-came_to.new.connection.vb c.serve-came_to.result)
+    c.open-connection.ensures.vb
+    (opened_is states (states c.args.disk) c.opened-opened.result.0 c.in-Ok.vb c.in-Ok.is c.opened-opened.ensures.opens)
+    opening.faults.no_lower
+    c.serve-came_to.ensures.stops in
+    let of : IsOfClosing c.serve-came_to.result c.close-exit.result =
+    of_closing states counts c.args.now (seen (states c.args.disk) (counts c.args.disk).faults) c.serve-came_to.new.connection.vb c.close-exit.new.self.vb c.serve-came_to.result c.close-exit.result stops c.close-exit.ensures.closes in
+    counts_all counts (counts c.args.disk) _ c.in-Ok.vb c.open-connection.result.vb c.serve-came_to.new.connection.vb c.close-exit.new.self.vb c.into_disk.result c.serve-came_to.result c.close-exit.result
+    c.open-connection.ensures.vb c.into_disk.ensures.disk of opening c.serve-came_to.ensures.disk_counted c.close-exit.ensures.counts
 
-pub returns-in-Failed-clause-outcome : goal.returns-in-Failed-clause-outcome
-returns-in-Failed-clause-outcome g c =
-    let seen : Seen = record { left_before = g.S.Source.left c.args.source.now; left_now = g.S.Source.left c.loop-buffer.source; written_before = g.K.Sink.written c.args.sink.now; written_now = g.K.Sink.written c.loop-buffer.sink } in
-    let left = g.S.Source.left c.read_piece.new.source in
-    read_failed c.args.now (record seen { left_now = left }) c.loop-buffer.connection (stays_left c.args.now seen c.loop-buffer.connection left c.loop-buffer.invariant.pauses c.in-Failed.ensures.bytes)
-
-pub returns-clause-outcome : goal.returns-clause-outcome
-returns-clause-outcome g c =
-    let seen : Seen = record { left_before = g.S.Source.left c.args.source.now; left_now = g.S.Source.left c.loop-buffer.source; written_before = g.K.Sink.written c.args.sink.now; written_now = g.K.Sink.written c.loop-buffer.sink } in
-    (exceeds c.args.now seen c.loop-buffer.connection (g.S.Source.left c.exceed.new.source) c.exceed.result c.loop-buffer.invariant.pauses (omega (arith, c.loop-buffer.invariant.fed, c.fed.ensures, c.loop-buffer-test.false)) c.exceed.ensures.bytes).0
+pub returns-in-Some-back-clause-outcome : goal.returns-in-Some-back-clause-outcome
+returns-in-Some-back-clause-outcome g c =
+    let states = g.D.Disk.states in
+    let before : List Device = states c.args.disk in
+    unopened states (λ moment. moment ≡ c.args.now) (g.S.Source.left c.args.source.now) (g.K.Sink.written c.args.sink.now) before (states c.in-Some-back.disk)
+    (g.D.Disk.counts c.args.disk).faults (g.D.Disk.counts c.in-Some-back.disk).faults c.in-Err.fault c.refused.result
+    (refused_is states before c.opened-opened.result.0 c.in-Err.fault c.in-Err.is c.opened-opened.ensures.opens)
+    (moments_back states before c.opened-opened.result.0 c.opened-opened.result.1 c.in-Err.fault c.in-Some-back.disk c.in-Err.is c.in-Some-back.is c.opened-opened.ensures.any_moment_back)
+    c.refused.ensures

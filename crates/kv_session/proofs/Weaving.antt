@@ -6,12 +6,12 @@ use Rattle.kv_frame.specs.declared.frame.Frame.{Frame}
 use Rattle.kv_frame.specs.declared.frame.Side.TheVariants.{Requests}
 use Rattle.kv_frame.specs.Grammar.{spelling}
 use Rattle.kv_frame.specs.Judging.{BeginsWith}
+use Rattle.kv_request.specs.declared.request.Request.{Request}
 use Rattle.kv_request.specs.declared.reply.Reply.{Reply}
+use Rattle.kv_request.specs.Sending.{sent_bytes}
 use Rattle.kv_session.specs.Answers.{made_by}
 use Rattle.kv_session.specs.Cutting.{Standing, at_start, behind, behind_all, NoneBehindQuit, IsSent, IsRead}
-use Rattle.kv_request.specs.Sending.{sent_bytes}
-use Rattle.vb_core.specs.Log.{Entry}
-use Rattle.kv_tool.specs.Pipe.{IsAnswer, AreReplies, reply_bytes}
+use Rattle.kv_session.specs.Weaving.{IsTold, AreTold, reply_bytes}
 
 -- where a connection stands behind one frame
 abbrev pub behind_one : Standing → Frame → Standing
@@ -56,22 +56,23 @@ read_further bytes fs rest more read = record {
 }
 
 -- one more frame is answered
-pub replies_more : (now : ℕ) (old : Standing) (log : List Entry) (fs : List Frame) (replies : List Reply) (mid : List Entry) (f : Frame) (entries : List Entry) (reply : Reply)
-    → AreReplies now old log fs replies mid → IsAnswer now mid (made_by (behind_all old fs).features f) entries reply → AreReplies now old log (fs ++ f ∷ []) (replies ++ reply ∷ []) (mid ++ entries)
-replies_more now old log [] [] mid f entries reply same answer =
-    (entries, subst (λ (l : List Entry). IsAnswer now l (made_by old.features f) entries reply) same answer, ap (λ (l : List Entry). l ++ entries) same)
-replies_more now old log [] (r ∷ rs) mid f entries reply others answer = absurd others
-replies_more now old log (g ∷ gs) [] mid f entries reply others answer = absurd others
-replies_more now old log (g ∷ gs) (r ∷ rs) mid f entries reply (es, first, others) answer =
-    (es, first, replies_more now (behind_one old g) (log ++ es) gs rs mid f entries reply others answer)
+pub told_more : {S : Type 0} (Answers : Request → S → Reply → S → Type 0) (old : Standing) (begin : S) (fs : List Frame) (replies : List Reply) (mid end : S) (f : Frame) (reply : Reply)
+    → AreTold Answers old begin fs replies mid → IsTold Answers (made_by (behind_all old fs).features f) mid reply end → AreTold Answers old begin (fs ++ f ∷ []) (replies ++ reply ∷ []) end
+told_more {S = S} Answers old begin [] [] mid end f reply same answer =
+    (end, subst (λ (s : S). IsTold Answers (made_by old.features f) s reply end) same answer, refl)
+told_more Answers old begin [] (r ∷ rs) mid end f reply others answer = absurd others
+told_more Answers old begin (g ∷ gs) [] mid end f reply others answer = absurd others
+told_more Answers old begin (g ∷ gs) (r ∷ rs) mid end f reply (next, first, others) answer =
+    (next, first, told_more Answers (behind_one old g) next gs rs mid end f reply others answer)
 
 -- the bytes of one more reply
-pub reply_bytes_more : (now : ℕ) (old : Standing) (log : List Entry) (fs : List Frame) (replies : List Reply) (end : List Entry) (f : Frame) (reply : Reply) → AreReplies now old log fs replies end
+pub reply_bytes_more : {S : Type 0} (Answers : Request → S → Reply → S → Type 0) (old : Standing) (begin : S) (fs : List Frame) (replies : List Reply) (end : S) (f : Frame) (reply : Reply)
+    → AreTold Answers old begin fs replies end
     → reply_bytes old (fs ++ f ∷ []) (replies ++ reply ∷ []) ≡ reply_bytes old fs replies ++ sent_bytes (behind_one (behind_all old fs) f).features reply
-reply_bytes_more now old log [] [] end f reply same = append-nil (sent_bytes (behind_one old f).features reply)
-reply_bytes_more now old log [] (r ∷ rs) end f reply others = absurd others
-reply_bytes_more now old log (g ∷ gs) [] end f reply others = absurd others
-reply_bytes_more now old log (g ∷ gs) (r ∷ rs) end f reply (es, first, others) =
+reply_bytes_more Answers old begin [] [] end f reply same = append-nil (sent_bytes (behind_one old f).features reply)
+reply_bytes_more Answers old begin [] (r ∷ rs) end f reply others = absurd others
+reply_bytes_more Answers old begin (g ∷ gs) [] end f reply others = absurd others
+reply_bytes_more Answers old begin (g ∷ gs) (r ∷ rs) end f reply (next, first, others) =
     let bytes : List ℕ = sent_bytes (behind_one old g).features r in
-    ap (λ (l : List ℕ). bytes ++ l) (reply_bytes_more now (behind_one old g) (log ++ es) gs rs end f reply others)
+    ap (λ (l : List ℕ). bytes ++ l) (reply_bytes_more Answers (behind_one old g) next gs rs end f reply others)
     ∙ sym (append_assoc bytes (reply_bytes (behind_one old g) gs rs) (sent_bytes (behind_one (behind_all (behind_one old g) gs) f).features reply))

@@ -1,0 +1,2 @@
+-- What runs of `pipe` are to a vbucket.
+pub mod Deeds
