@@ -1,0 +1,6 @@
+pub mod OneNumber
+pub mod Layouts
+pub mod HeadFields
+pub mod Measured
+pub mod OneMessage
+pub mod Judged

@@ -1,0 +1,5 @@
+pub mod Layout
+pub mod Grammar
+pub mod Judging
+pub mod Reading
+pub mod Heads
