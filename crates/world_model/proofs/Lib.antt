@@ -1,0 +1,4 @@
+pub mod Beginning
+pub mod Remembering
+pub mod Leading
+pub mod Folding

@@ -1,0 +1,29 @@
+//! The copies of a vbucket together, as definitions that the laws of failover go by.
+//!
+//! A world has the copies at the places of a chain, each up or down, all messages that were ever
+//! sent, and all answers that were given to fences (`specs/Worlds.antt`, `World`). It goes on by
+//! steps (`Step`):
+//!
+//! | Step | What it does |
+//! |---|---|
+//! | an event of a copy that is up | the copy becomes another, as `copy_model` has it; what it says and answers is added |
+//! | a crash | the copy is down; its disk has its pair, or the other where a write was stopped |
+//! | an opening | a copy that is down is up again on a pair that its disk may hold, or its disk fails |
+//!
+//! No message is ever lost from the world, so a copy may hear one late, again, or never: what a
+//! network does to messages is which of them are heard and when.
+//!
+//! # Terms
+//!
+//! Along a run of a world each term has a base, the log that its owner had on disk when it was first
+//! seen to have accepted it, and a lead, the log that the owner had when it was last active at it
+//! (`specs/Terms.antt`, `term_of`). A durable write that was prepared in a term stands in another
+//! when the other's base has it with all before it, and the other's lead has no Abort of it
+//! (`Stands`).
+#![tactic(auto)]
+
+mod laws;
+
+pub use laws::{
+    bases_stay, copies_begin_new, leads_are_of_actives, nothing_is_unsaid, worlds_fold,
+};
