@@ -1,5 +1,6 @@
-ghost use Rattle.std.specs.Prelude.{◌≡◌, ◌≤◌, [], ◌∷◌, Some, length, IfOk};
-ghost use Rattle.durability_core.specs.Chains.{IsChain};
+ghost use Rattle.std.specs.Prelude.{◌≡◌, ◌≤◌, [], ◌∷◌, Some, length, nat_eq, IfOk};
+ghost use Rattle.std.specs.List.{list_any};
+ghost use Rattle.durability_core.specs.Chains.{IsChain, named_places};
 
 use kv_edge::{Bytes, Copied, NoMemory, Seq};
 use std::alloc::Global;
@@ -23,6 +24,27 @@ impl Chain {
         let mut names = Seq::new(alloc);
         names.push(Some(Bytes::from_slice(alloc, name)?))?;
         Ok(Chain { names })
+    }
+
+    /// Whether a place has a name.
+    pub fn is_named(&self, place: u8) -> bool
+        ensures { result ≡ list_any (nat_eq place) (named_places self.now) }
+    {
+        match self.names.as_slice().get(place as usize) {
+            Some(name) => name.is_some(),
+            None => false,
+        }
+    }
+
+    /// How many places have a name.
+    pub fn named_count(&self) -> usize
+        ensures { result ≡ length (named_places self.now) }
+    {
+        self.names
+            .as_slice()
+            .iter()
+            .filter(|name| name.is_some())
+            .count()
     }
 }
 

@@ -1,9 +1,11 @@
-//! Laws of majorities and of readiness. Each function does nothing; its contract is the law.
+//! Laws of majorities, of readiness and of trackers. Each function does nothing; its contract is the law.
 
-ghost use Rattle.std.specs.Prelude.{◌≡◌, ◌≢◌, ◌≤◌, ℕ, nat_eq, nat_le, Bool, true, false};
-ghost use Rattle.std.specs.List.{list_any};
+ghost use Rattle.std.specs.Prelude.{◌≡◌, ◌≢◌, ◌≤◌, ℕ, nat_eq, nat_le, Bool, true, false, List, ◌∷◌, ◌++◌, take_while};
+ghost use Rattle.std.specs.List.{list_all, list_any};
 ghost use Rattle.durability_core.specs.declared.chain.Chain.{Chain};
 ghost use Rattle.durability_core.specs.Chains.{majority, named_places};
+ghost use Rattle.durability_core.specs.declared.waiting.Waiting.{Waiting};
+ghost use Rattle.durability_core.specs.Tracking.{Tracked, known_at, told, is_inherited, is_due, still_waiting};
 ghost use Rattle.durability_core.specs.Ready.{Known, KnowsMore, most_pass, can_commit, is_ready};
 
 /// How many places are a majority of 1, 2, 3 and 4.
@@ -76,4 +78,28 @@ pub fn what_places_have_is_ready()
 pub fn nothing_is_ready_where_too_few_are_named()
     ensures { (chain : Chain) (own level position : ℕ) (known : ℕ → Known)
         → can_commit chain ≡ false → is_ready chain own known level position ≡ false }
+{}
+
+/// An Ack that comes again changes nothing more; and no Ack lowers what is known of a place.
+pub fn acks_count_once()
+    ensures once { (t : Tracked) (place mem disk : ℕ)
+        → told place mem disk (told place mem disk t) ≡ told place mem disk t }
+    ensures more { (t : Tracked) (place mem disk : ℕ)
+        → KnowsMore (known_at t.known) (known_at (told place mem disk t).known) }
+{}
+
+/// What is committed is ready, it is the first of what waits, and the first prepare that is left isn't ready.
+pub fn the_first_ready_are_committed()
+    ensures ready { (ready : Waiting → Bool) (waiting : List Waiting)
+        → list_all ready (take_while ready waiting) ≡ true }
+    ensures first { (ready : Waiting → Bool) (waiting : List Waiting)
+        → take_while ready waiting ++ still_waiting ready waiting ≡ waiting }
+    ensures left { (ready : Waiting → Bool) (waiting others : List Waiting) (next : Waiting)
+        → still_waiting ready waiting ≡ next ∷ others → ready next ≡ false }
+{}
+
+/// A prepare that was inherited isn't given up at any moment.
+pub fn inherited_prepares_are_never_given_up()
+    ensures { (now : ℕ) (prepare : Waiting)
+        → is_inherited prepare ≡ true → is_due now prepare ≡ false }
 {}

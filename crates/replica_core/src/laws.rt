@@ -1,6 +1,6 @@
 //! Laws of terms, promotions and messages. Each function does nothing; its contract is the law.
 
-ghost use Rattle.std.specs.Prelude.{◌≡◌, ℕ, ◌<◌, ◌≤◌, ◌%◌, ◌^◌, ◌||◌, nat_eq, Bool, true, false, List, None};
+ghost use Rattle.std.specs.Prelude.{◌≡◌, ℕ, ◌<◌, ◌≤◌, ◌%◌, ◌^◌, ◌||◌, nat_eq, Bool, true, false, List, None, Ok, ◌⊎◌};
 ghost use Rattle.std.specs.List.{list_all, list_any};
 ghost use Rattle.durability_core.specs.Chains.{named_places};
 ghost use Rattle.durability_core.specs.Ready.{most_pass};
@@ -13,6 +13,7 @@ ghost use Rattle.replica_core.specs.Terms.{owns};
 ghost use Rattle.replica_core.specs.Promotion.{answer_at, same_answer, is_behind, has_answered};
 ghost use Rattle.replica_core.specs.Promotion.{are_many, none_foreign, promote_fault};
 ghost use Rattle.replica_core.specs.Hearing.{heard};
+ghost use Rattle.replica_core.specs.Moving.{fenced, fence_answer, after_promotion, with_all};
 
 /// A term has one owner, a place from 0 to 3; each number from 4 to below 2^48 has its own, and no
 /// other number has one.
@@ -74,4 +75,33 @@ pub fn promotion_meets_each_majority()
 pub fn dead_copies_hear_nothing()
     ensures { (core : CopyCore) (head : MessageHead)
         → core.role ≡ roles.Dead → heard core head ≡ hearing.Ignore }
+{}
+
+/// Nothing lowers a copy's promise: no fence, no promotion, and no message of which all is taken.
+pub fn promises_never_fall()
+    ensures fenced { (core : CopyCore) (term : ℕ) → core.promise ≤ (fenced term core).promise }
+    ensures promoted { (core : CopyCore) (term : ℕ) (answers : List FenceAnswer) (weak : Bool)
+        → (after_promotion term (promote_fault core term answers weak) core).promise
+        ≡ core.promise }
+    ensures taken { (core : CopyCore) (head : MessageHead)
+        → core.promise ≤ (with_all head core).promise }
+{}
+
+/// A copy that answers a fence has promised its term: it is the promise then.
+pub fn fences_are_promised()
+    ensures { (core : CopyCore) (term : ℕ) (answer : FenceAnswer)
+        → fence_answer term core ≡ Ok answer → (fenced term core).promise ≡ term }
+{}
+
+/// A copy takes all that a message brings only from the owner of the message's term, which is not below its promise, and only
+/// where that is a log of a later term, or a longer one of the same.
+pub fn only_more_is_taken()
+    ensures owner { (core : CopyCore) (head : MessageHead)
+        → heard core head ≡ hearing.TakeAll → owns head.from head.term ≡ true }
+    ensures promise { (core : CopyCore) (head : MessageHead)
+        → heard core head ≡ hearing.TakeAll → (with_all head core).promise ≡ head.term }
+    ensures more { (core : CopyCore) (head : MessageHead)
+        → heard core head ≡ hearing.TakeAll
+        → (core.accepted < head.term)
+        ⊎ ((core.accepted ≡ head.term) × (core.length < head.second)) }
 {}

@@ -40,17 +40,35 @@
 //! An active copy hears messages of its own term, another those of the owner of a term that is at
 //! least its promise, a dead one none; and all hear places that the chain names alone
 //! (`specs/Hearing.antt`).
+//!
+//! # What a copy is afterwards
+//!
+//! | Call | changes |
+//! |---|---|
+//! | `fence` | promises a term above the promise, and makes the copy a replica then |
+//! | `promote` | makes the copy active at the term, and whole, where there is no fault |
+//! | `taken` | takes term and length of an Adopt, is whole, and promises the term where it was lower |
+//! | `leave` | puts the copy in another role than the active one |
+//!
+//! `hear` changes nothing. These calls move numbers alone (`specs/Moving.antt`): who keeps the copy
+//! puts promise and log on disk before it tells anyone, and takes the copy's log along.
 #![tactic(auto)]
 
 mod copy;
 mod fences;
+mod heads;
 mod laws;
 mod messages;
+mod moving;
+mod promoting;
+#[cfg(test)]
+mod tests;
 
 pub use copy::{CopyCore, Role};
 pub use fences::{FenceAnswer, PromoteFault};
 pub use laws::{
-    dead_copies_hear_nothing, promotion_meets_each_majority, promotion_needs_a_majority,
-    rightful_promotions_are_made, terms_have_one_owner,
+    dead_copies_hear_nothing, fences_are_promised, only_more_is_taken, promises_never_fall,
+    promotion_meets_each_majority, promotion_needs_a_majority, rightful_promotions_are_made,
+    terms_have_one_owner,
 };
 pub use messages::{ACK, ADOPT, ENTRY, Heard, MessageHead, REJOIN};

@@ -26,3 +26,4 @@ pub mod Joined
 pub mod Positions
 pub mod Apart
 pub mod Staying
+pub mod Commits

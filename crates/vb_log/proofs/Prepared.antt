@@ -71,7 +71,7 @@ found_at p xs i x h e = let is = h.place in first_found p xs x (let w = h.within
 
 -- ---- positions that rise
 
-abbrev positions : List Pending → List ℕ
+abbrev pub positions : List Pending → List ℕ
 positions ps = list_map (λ (p : Pending). p.position) ps
 
 all_above : (a b : ℕ) (xs : List ℕ) → a < b → list_all (nat_lt b) xs ≡ true → list_all (nat_lt a) xs ≡ true
@@ -82,13 +82,13 @@ all_above a b (x ∷ xs) l h =
     and_from (nat_lt a x) (list_all (nat_lt a) xs) (lt-ltb a x (omega arith)) (all_above a b xs l parts.1)
 
 -- numbers that rise behind one are above it
-rise_above : (a : ℕ) (xs : List ℕ) → are_rising (a ∷ xs) ≡ true → list_all (nat_lt a) xs ≡ true
+pub rise_above : (a : ℕ) (xs : List ℕ) → are_rising (a ∷ xs) ≡ true → list_all (nat_lt a) xs ≡ true
 rise_above a [] h = refl
 rise_above a (x ∷ xs) h =
     let parts = and_parts (nat_lt a x) (are_rising (x ∷ xs)) h in
     and_from (nat_lt a x) (list_all (nat_lt a) xs) parts.0 (all_above a x xs (ltb-true a x parts.0) (rise_above x xs parts.1))
 
-rise_rest : (a : ℕ) (xs : List ℕ) → are_rising (a ∷ xs) ≡ true → are_rising xs ≡ true
+pub rise_rest : (a : ℕ) (xs : List ℕ) → are_rising (a ∷ xs) ≡ true → are_rising xs ≡ true
 rise_rest a [] h = refl
 rise_rest a (x ∷ xs) h = (and_parts (nat_lt a x) (are_rising (x ∷ xs)) h).1
 
@@ -137,7 +137,7 @@ all_left of (p ∷ ps) e = by (nat_eq p.position of) e (λ f. all_left of ps f)
     by true e rest = absurd (let z : Some p ≡ None = e in cc)
     by false e rest = ap (λ l. p ∷ l) (rest e)
 
-none_equal : (of : ℕ) (ps : List Pending) → list_all (nat_lt of) (positions ps) ≡ true → other_than of ps ≡ ps
+pub none_equal : (of : ℕ) (ps : List Pending) → list_all (nat_lt of) (positions ps) ≡ true → other_than of ps ≡ ps
 none_equal of [] h = refl
 none_equal of (p ∷ ps) h =
     let parts = and_parts (nat_lt of p.position) (list_all (nat_lt of) (positions ps)) h in

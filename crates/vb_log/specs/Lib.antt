@@ -16,3 +16,4 @@ pub mod Stored
 pub mod Wholes
 pub mod Joining
 pub mod Flushing
+pub mod Settling

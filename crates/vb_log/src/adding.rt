@@ -12,7 +12,7 @@ ghost use Rattle.vb_log.specs.Content.{item_made, with_step, one_longer};
 ghost use Rattle.vb_log.specs.declared.entry.Entry.TheVariants as entries;
 ghost use Rattle.vb_log.specs.Sizes.{can_add, size};
 ghost use Rattle.vb_log.specs.Held.{items_size, waiting_size, pending_size};
-ghost use Rattle.vb_log.specs.Adding.{Becomes, HasRoom, with_change, with_waiting, with_room, items_given, items_with};
+ghost use Rattle.vb_log.specs.Adding.{Becomes, HasRoom, with_change, with_waiting, mark, with_room, items_given, items_with};
 
 use crate::content::Content;
 use crate::entry::{Entry, Pending};
@@ -158,7 +158,7 @@ fn make(
 }
 
 /// Gives a key that has something what was prepared for it.
-fn show(items: &mut Items, key: &DocKey, position: u64, change: Option<Pending>)
+pub(crate) fn show(items: &mut Items, key: &DocKey, position: u64, change: Option<Pending>)
     requires own { IfSome change (λ p. p.key ≡ key.now) }
     requires has { is_some (map.get items.old key.now) ≡ true }
     requires room { items_size items.old + pending_size change < 2 ^ 64 }
@@ -176,14 +176,21 @@ fn make_room(alloc: Global, items: &mut Items, key: &DocKey) -> Result<(), NoMem
     ensures err { OnErr result (items.new ≡ items.old) }
 {
     if items.get(key).is_none() {
-        let mark = Item {
-            key: key.copy(alloc)?,
-            seqno: 0,
-            what: What::Remove(0),
-        };
-        items.put(alloc, key, mark)?;
+        let own = key.copy(alloc)?;
+        items.put(alloc, key, mark(own))?;
     }
     Ok(())
+}
+
+/// What a key gets that has nothing, before it gets what was prepared: a mark of deletion.
+pub(crate) fn mark(key: DocKey) -> Item
+    ensures { result ≡ mark key }
+{
+    Item {
+        key,
+        seqno: 0,
+        what: What::Remove(0),
+    }
 }
 
 /// Adds the Abort of the change that was prepared at a position.

@@ -22,7 +22,7 @@ fn two(alloc: Global) -> Result<Manifest, ContentFault> {
 }
 
 /// A key.
-fn key_of(alloc: Global, collection: u32, name: &str) -> Result<DocKey, NoMemory> {
+pub(crate) fn key_of(alloc: Global, collection: u32, name: &str) -> Result<DocKey, NoMemory> {
     Ok(DocKey {
         collection,
         key: Bytes::from_slice(alloc, name.as_bytes())?,
@@ -30,7 +30,7 @@ fn key_of(alloc: Global, collection: u32, name: &str) -> Result<DocKey, NoMemory
 }
 
 /// Marks of deletions of keys of collections, each made at a position.
-fn marks(alloc: Global, rows: &[(u32, &str, u64)]) -> Result<Vec<Item>, NoMemory> {
+pub(crate) fn marks(alloc: Global, rows: &[(u32, &str, u64)]) -> Result<Vec<Item>, NoMemory> {
     let mut items = Vec::new(alloc);
     for (collection, name, position) in rows {
         items.push(Item {
@@ -74,7 +74,7 @@ fn made_at(alloc: Global, content: &Content, collection: u32, name: &str) -> Res
 }
 
 /// The number of the first row whose key's item was made elsewhere.
-fn first_wrong(
+pub(crate) fn first_wrong(
     alloc: Global,
     content: &Content,
     rows: &[(u32, &str, u64)],

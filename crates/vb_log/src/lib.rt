@@ -30,7 +30,8 @@
 //! - The greatest CAS of all entries, and how many entries there are.
 //!
 //! A content with one entry more is worked out from the entry alone, so that no log needs to be
-//! kept (`folds_follow_their_entries`). What of a content lies behind a position and what the log
+//! kept (`folds_follow_their_entries`). `commit_first` adds the Commits of the first changes that
+//! wait, as many as are asked for: all of them, or none where memory is refused. What of a content lies behind a position and what the log
 //! came to up to there are together the whole content (`parts_join_back`).
 //!
 //! # Whole contents
@@ -216,6 +217,7 @@ mod ordering;
 mod pending;
 mod reading;
 mod setting;
+mod settling;
 mod sizes;
 mod spelt_content;
 mod spelt_items;
@@ -244,6 +246,7 @@ pub use limits::{
 };
 pub use pending::{pending_into, read_pending};
 pub use reading::{ContentFault, read_entry};
+pub use settling::commit_first;
 pub use spelt_content::{content_into, read_content};
 pub use stored::{item_into, read_item};
 pub use whole::of_parts;
@@ -253,5 +256,7 @@ pub use writing::entry_into;
 mod content_tests;
 #[cfg(test)]
 mod joining_tests;
+#[cfg(test)]
+mod settling_tests;
 #[cfg(test)]
 mod tests;

@@ -1,6 +1,6 @@
 //! The changes that wait.
 
-ghost use Rattle.std.specs.Prelude.{◌≡◌, ◌<◌, ◌+◌, ◌^◌, ◌++◌, ◌∷◌, [], nat_eq, nat_lt, is_some, position, IsTrue, IfOk, OnOk, OnErr};
+ghost use Rattle.std.specs.Prelude.{◌≡◌, ◌<◌, ◌+◌, ◌^◌, ◌++◌, ◌∷◌, [], nat_eq, nat_lt, is_some, position, length, IsTrue, IfOk, OnOk, OnErr};
 ghost use Rattle.std.specs.List.{list_all, list_any};
 ghost use Rattle.std.specs.Option.{option_copied};
 ghost use Rattle.std.specs.Ordering.{eq_by_cmp};
@@ -8,13 +8,19 @@ ghost use Rattle.doc_model.specs.Keys.{key_cmp};
 ghost use Rattle.vb_log.specs.declared.entry.Pending.{Pending};
 ghost use Rattle.vb_log.specs.Content.{prepare_at, prepare_of, other_than};
 ghost use Rattle.vb_log.specs.Held.{pending_weight, pending_size, waiting_size, positions_rise};
+ghost use Rattle.vb_log.specs.Settling.{CanBeMade, AreMade};
 
 use crate::entry::Pending;
+use crate::items::Items;
+use crate::settling::make_each;
 use crate::sizes::{size_of, waiting_size};
 use doc_model::DocKey;
 use kv_edge::{Copied, NoMemory};
+use manifest_rules::Manifest;
 use std::alloc::Global;
+use std::collections::VecDeque;
 use std::marker::Model;
+use std::mem;
 
 /// Changes that wait, in rising order of their positions, and what they count together. Contracts see the list of them.
 #[derive(Drop)]
@@ -132,6 +138,26 @@ impl Undecided {
             }
             None => None,
         }
+    }
+
+    /// Makes the first changes, which have these keys, in their order, by the entries behind a position; what is left moves
+    /// up once. It takes no memory.
+    pub(crate) fn make_first(
+        &mut self,
+        alloc: Global,
+        keys: &[DocKey],
+        items: &mut Items,
+        manifest: &Manifest,
+        position: u64,
+    )
+        requires { CanBeMade manifest.now items.old self.old keys.now position }
+        ensures { AreMade (length keys.now) manifest.now position items.old self.old items.new self.new }
+    {
+        let changes = mem::replace(&mut self.changes, Vec::new(alloc));
+        let mut waiting = VecDeque::from_vec(changes);
+        let counted = make_each(&mut waiting, keys, items, manifest, position);
+        self.changes = waiting.into_vec();
+        self.size -= counted;
     }
 
     /// The same changes.
