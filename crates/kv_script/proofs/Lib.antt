@@ -1,0 +1,6 @@
+mod Numbers
+mod Places
+mod Reread
+mod Same
+mod Solid
+mod Tuples
