@@ -1,0 +1,19 @@
+-- How a copy's small steps are seen in its memory.
+pub mod Names
+pub mod Ties
+pub mod Deciding
+pub mod Fates
+pub mod Room
+pub mod Kept
+pub mod Saying
+pub mod Polled
+pub mod Grown
+pub mod Committing
+pub mod Telling
+pub mod Settles
+pub mod Steps
+pub mod Leaving
+pub mod Moves
+pub mod Made
+pub mod Flushes
+pub mod Begun
