@@ -4,7 +4,7 @@ use Rattle.std.specs.Int.{w64, to_be_bytes}
 use Rattle.std.proofs.lemmas.Bool.{cases_eq}
 use Rattle.std.proofs.lemmas.List.{flat_map_more}
 use Rattle.kv_edge.proofs.Fields.{wide64}
-use Rattle.magma_disk.specs.Device.{Device, settled, overlaid, Torn}
+use Rattle.magma_disk.specs.Device.{Device, overlaid, Torn}
 use Rattle.magma_disk.specs.Moments.{Throughout, IsSettled}
 use Rattle.magma_disk.proofs.Moments.{weaker, onward}
 use Rattle.magma_store.specs.declared.journal.TheConstants.{OPEN, SHUT}

@@ -1,10 +1,10 @@
 -- The items to which the spots of a map lead, gathered.
-use Rattle.std.specs.Prelude.{◌≡◌, ℕ, ◌≤◌, ◌^◌, nat_lt, filter, Bool, true, false, cond, List, [], ◌∷◌, map as list_map, Option, Some, None, refl}
+use Rattle.std.specs.Prelude.{◌≡◌, ℕ, ◌≤◌, ◌^◌, nat_lt, filter, Bool, true, false, cond, List, [], ◌∷◌, Option, Some, None, refl}
 use Rattle.std.specs.FinMap as map
 use Rattle.std.specs.FinMap.Entries.{find}
 use Rattle.std.specs.Map.{values_of}
 use Rattle.std.specs.Ordering.{eq_by_cmp}
-use Rattle.std.proofs.Common.{sym, ap, ap₂, ◌∙◌, subst, arith}
+use Rattle.std.proofs.Common.{sym, ap, ◌∙◌, subst, arith}
 use Rattle.doc_model.specs.declared.key.DocKey.{DocKey}
 use Rattle.doc_model.specs.declared.document.Item.{Item}
 use Rattle.doc_model.specs.Keys.{key_cmp}
@@ -17,7 +17,7 @@ use Rattle.magma_disk.specs.Device.{Device}
 use Rattle.magma_store.specs.declared.spot.Spot.{Spot}
 use Rattle.magma_store.specs.Gotten.{Stands, AllStand}
 use Rattle.magma_store.specs.Store.{Leads, LeadTo, behind}
-use Rattle.magma_store.proofs.Gotten.{some_same, none_some}
+use Rattle.magma_store.proofs.Gotten.{none_some}
 
 -- a key's spot leads to its item
 pub record Led (items : map.FinMap key_cmp Item) (h : List Device) (q : DocKey) (s : Spot) : Type 0 where
@@ -39,7 +39,7 @@ led_at : (d : Device) (past : List Device) (items : map.FinMap key_cmp Item) (en
 led_at d past items end q s small None is l = absurd l
 led_at d past items end q s small (Some item) is l =
     let within = l.2.before in
-    record { item = item; has = is; own = l.0; same = l.2.seqno; stands = (l.1, record { seqno = l.2.seqno; len = l.2.len; read = l.2.read; before = omega (arith, within, small) }) }
+    record { item = item; has = is; own = l.0; same = l.2.seqno; stands = (l.1, record { seqno = l.2.seqno; len = l.2.len; weight = l.2.weight; cas = l.2.cas; read = l.2.read; before = omega (arith, within, small) }) }
 
 pub led_of : (h : List Device) (spots : map.FinMap key_cmp Spot) (items : map.FinMap key_cmp Item) (end : ℕ) → LeadTo spots items end h → end ≤ 2 ^ 62
     → (q : DocKey) (s : Spot) → map.get spots q ≡ Some s → Led items h q s

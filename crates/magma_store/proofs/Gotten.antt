@@ -7,19 +7,18 @@ use Rattle.doc_model.specs.declared.key.DocKey.{DocKey}
 use Rattle.doc_model.specs.declared.document.Item.{Item}
 use Rattle.doc_model.specs.declared.document.What.{What}
 use Rattle.doc_model.specs.declared.document.What.TheVariants as whats
-use Rattle.leb_collections.specs.Functions.{id_bytes}
 use Rattle.leb_collections.proofs.Laws.{id_bytes_short}
 use Rattle.magma_disk.specs.Device.{Device}
 use Rattle.vb_log.specs.Contents.{item_bytes}
 use Rattle.vb_log.specs.Keys.{IsAllowedKey, name_limit, key_bytes}
-use Rattle.vb_log.specs.Spelling.{IsAllowedWhat, IsAllowedDoc, what_bytes}
+use Rattle.vb_log.specs.Spelling.{IsAllowedWhat, what_bytes}
 use Rattle.vb_log.specs.Sizes.{key_length, what_length}
 use Rattle.vb_log.specs.declared.entry.Entry.TheVariants as entries
 use Rattle.vb_log.specs.Stored.{IsStorable}
 use Rattle.vb_log.proofs.Entries.{entry_size}
 use Rattle.magma_store.specs.declared.spot.Spot.{Spot}
 use Rattle.doc_model.specs.Keys.{key_cmp}
-use Rattle.magma_store.specs.Store.{StandsAt, Leads, LeadTo}
+use Rattle.magma_store.specs.Store.{Leads, LeadTo}
 use Rattle.magma_store.specs.Gotten.{Stands, AllStand}
 use Rattle.std.specs.List.{AllByRecursion}
 
@@ -80,7 +79,7 @@ leads_to (d ∷ past) spots items end key spot l small is =
     go None e = absurd e
     go (Some item) e =
         let within = e.2.before in
-        (item, (e.1, record { seqno = e.2.seqno; len = e.2.len; read = e.2.read; before = omega (arith, within, small) }))
+        (item, (e.1, record { seqno = e.2.seqno; len = e.2.len; weight = e.2.weight; cas = e.2.cas; read = e.2.read; before = omega (arith, within, small) }))
 
 -- ---- items one after another
 

@@ -1,23 +1,20 @@
 -- One record more behind those of a store.
-use Rattle.std.specs.Prelude.{◌≡◌, ◌≢◌, ℕ, ◌+◌, ◌≤◌, ◌<◌, ◌^◌, Bool, List, [], ◌∷◌, ◌++◌, length, map as list_map, Option, Some, None, refl}
-use Rattle.std.specs.List.{flat_map, AllByRecursion}
+use Rattle.std.specs.Prelude.{◌≡◌, ℕ, ◌+◌, List, [], ◌∷◌, ◌++◌, length, refl}
+use Rattle.std.specs.List.{AllByRecursion}
 use Rattle.std.specs.Int.{w64, to_be_bytes}
 use Rattle.std.specs.FinMap as map
-use Rattle.std.proofs.Common.{sym, ◌∙◌, ap, subst, arith, append_assoc, length-append}
+use Rattle.std.proofs.Common.{sym, ◌∙◌, ap, subst, arith, length-append}
 use Rattle.std.proofs.lemmas.List.{append-nil, map-append}
 use Rattle.std.proofs.lemmas.Grind.{flat_map-append}
-use Rattle.doc_model.specs.declared.document.Item.{Item}
 use Rattle.doc_model.specs.Keys.{key_cmp}
 use Rattle.durability_core.specs.declared.chain.Chain.{Chain}
-use Rattle.vb_log.specs.Stored.{IsStorable}
 use Rattle.magma_store.specs.declared.meta.Meta.{Meta}
-use Rattle.magma_store.specs.declared.meta.Numbers.{Numbers}
 use Rattle.magma_store.specs.declared.spot.Spot.{Spot}
 use Rattle.magma_store.specs.Changes.{Change, Sets, Writes, IsChange, change_bytes}
 use Rattle.magma_store.specs.Held.{Held, with_numbers, with_items, items_left, AreDropped, Becomes, BecomesBy, records_of, IsHistory}
-use Rattle.magma_store.specs.Journal.{record_bytes, journal_bytes, CanBeCounted}
-use Rattle.magma_store.specs.Loading.{LeadIn, Tells}
-use Rattle.magma_store.specs.Taking.{Moves, TakesChange}
+use Rattle.magma_store.specs.Journal.{record_bytes, journal_bytes}
+use Rattle.magma_store.specs.Loading.{LeadIn}
+use Rattle.magma_store.specs.Taking.{Moves}
 use Rattle.magma_store.proofs.Leading.{lead_more, lead_write}
 
 becomes_more : (changes : List Change) (c : Change) (old mid new : Held) → BecomesBy changes old mid → Becomes c mid new → BecomesBy (changes ++ c ∷ []) old new

@@ -1,6 +1,6 @@
 -- Spots that lead to items among the bytes of records, record by record.
-use Rattle.std.specs.Prelude.{◌≡◌, ◌≢◌, ℕ, ◌+◌, ◌≤◌, ◌<◌, ◌^◌, nat_eq, Bool, true, false, cond, not, List, [], ◌∷◌, ◌++◌, length, take, drop, Option, Some, None, if◌then◌else◌, refl}
-use Rattle.std.specs.List.{flat_map, AllByRecursion, list_any}
+use Rattle.std.specs.Prelude.{◌≡◌, ℕ, ◌+◌, ◌≤◌, Bool, true, false, cond, not, List, [], ◌∷◌, ◌++◌, length, take, drop, Option, Some, None, if◌then◌else◌, refl}
+use Rattle.std.specs.List.{flat_map, AllByRecursion}
 use Rattle.std.specs.Int.{w32, w64, to_be_bytes}
 use Rattle.std.specs.Ordering.{eq_by_cmp}
 use Rattle.std.specs.FinMap as map
@@ -11,7 +11,7 @@ use Rattle.doc_model.specs.declared.document.Item.{Item}
 use Rattle.doc_model.specs.Keys.{key_cmp, is_in}
 use Rattle.doc_model.proofs.Entries.{keys_total, same_key}
 use Rattle.doc_model.proofs.Drops.{get_kept}
-use Rattle.vb_log.specs.Contents.{item_bytes, items_bytes}
+use Rattle.vb_log.specs.Contents.{item_bytes}
 use Rattle.vb_log.specs.Spelling.{sized}
 use Rattle.vb_log.specs.Stored.{IsStorable}
 use Rattle.magma_store.specs.declared.journal.TheConstants.{OPEN}
@@ -23,7 +23,7 @@ use Rattle.magma_store.specs.Held.{with_items, items_left}
 use Rattle.magma_store.specs.Journal.{record_bytes}
 use Rattle.magma_store.specs.Loading.{LeadIn}
 use Rattle.magma_store.specs.Reading.{items_behind}
-use Rattle.magma_store.specs.Spots.{placed, with_spots}
+use Rattle.magma_store.specs.Spots.{spot_at, placed, with_spots}
 use Rattle.magma_store.specs.Store.{StandsAt, Leads}
 use Rattle.magma_store.specs.Taking.{spots_left}
 
@@ -37,11 +37,11 @@ front_same bytes more at n low =
 stands_more : (bytes more : List ℕ) (end : ℕ) (spot : Spot) (item : Item) → length bytes ≤ end → StandsAt bytes (length bytes) spot item → StandsAt (bytes ++ more) end spot item
 stands_more bytes more end spot item low s =
     let before = s.before in
-    record { seqno = s.seqno; len = s.len; read = front_same bytes more spot.at spot.length before ∙ s.read; before = omega arith }
+    record { seqno = s.seqno; len = s.len; weight = s.weight; cas = s.cas; read = front_same bytes more spot.at spot.length before ∙ s.read; before = omega arith }
 
 stands_within : (bytes more : List ℕ) (spot : Spot) (item : Item) → StandsAt (bytes ++ more) (length bytes) spot item → StandsAt bytes (length bytes) spot item
 stands_within bytes more spot item s =
-    record { seqno = s.seqno; len = s.len; read = sym (front_same bytes more spot.at spot.length s.before) ∙ s.read; before = s.before }
+    record { seqno = s.seqno; len = s.len; weight = s.weight; cas = s.cas; read = sym (front_same bytes more spot.at spot.length s.before) ∙ s.read; before = s.before }
 
 -- spots lead to items among these bytes, before an end
 abbrev pub LeadsAll : List ℕ → ℕ → map.FinMap key_cmp Spot → map.FinMap key_cmp Item → Type 0
@@ -100,10 +100,12 @@ lead_insert bytes end spots items i spot ok stands lead key =
 -- ---- of items one after another
 
 stands_here : (front item back bytes : List ℕ) (at end : ℕ) (i : Item) → item ≡ item_bytes i → length front ≡ at → at + length item ≤ end → bytes ≡ front ++ (item ++ back)
-    → StandsAt bytes end (record { seqno = i.seqno; at = at; length = length (item_bytes i) }) i
+    → StandsAt bytes end (spot_at at i) i
 stands_here front item back bytes at end i is len low parts = record {
   seqno = refl;
   len = refl;
+  weight = refl;
+  cas = refl;
   read = ap (λ l. take (length (item_bytes i)) (drop at l)) parts ∙ ap (take (length (item_bytes i))) (drop_at front (item ++ back) at len) ∙ take_at item back (length (item_bytes i)) (ap length is) ∙ is;
   before = let e = ap length is in omega arith;
 }
@@ -119,8 +121,8 @@ lead_placed (i ∷ is) front back bytes at end spots items ok len low parts lead
     let here : bytes ≡ front ++ (one ++ (more ++ back)) = parts ∙ ap (λ l. front ++ l) (append_assoc one more back) in
     let next : bytes ≡ (front ++ one) ++ (more ++ back) = here ∙ sym (append_assoc front one (more ++ back)) in
     let longer : length (front ++ one) ≡ at + length one = length-append front one ∙ ap (λ n. n + length one) len in
-    lead_placed is (front ++ one) back bytes (at + length one) end (map.insert spots i.key (record { seqno = i.seqno; at = at; length = length one })) (map.insert items i.key i) ok.1 longer (omega arith) next
-    (lead_insert bytes end spots items i (record { seqno = i.seqno; at = at; length = length one }) ok.0 (stands_here front one (more ++ back) bytes at end i refl len (omega arith) here) lead)
+    lead_placed is (front ++ one) back bytes (at + length one) end (map.insert spots i.key (spot_at at i)) (map.insert items i.key i) ok.1 longer (omega arith) next
+    (lead_insert bytes end spots items i (spot_at at i) ok.0 (stands_here front one (more ++ back) bytes at end i refl len (omega arith) here) lead)
 
 -- ---- of a record that writes
 

@@ -1,3 +1,6 @@
+pub mod Weights
+pub mod Going
+pub mod Collections
 pub mod StoreCounts
 pub mod Leading
 pub mod Growing

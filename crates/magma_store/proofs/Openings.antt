@@ -1,7 +1,6 @@
 -- The steps of an opening.
-use Rattle.std.specs.Prelude.{◌≡◌, ◌≢◌, ◌⊎◌, ℕ, ◌+◌, ◌*◌, ◌≤◌, ◌<◌, ◌^◌, nat_le, Bool, true, false, List, [], ◌∷◌, ◌++◌, length, take, Option, Some, None, Result, Ok, Err, IfErr, IsErrAnd, if◌then◌else◌, refl}
+use Rattle.std.specs.Prelude.{◌≡◌, ◌⊎◌, ℕ, ◌+◌, ◌*◌, ◌≤◌, ◌<◌, List, [], ◌∷◌, ◌++◌, length, Option, Some, None, Result, Ok, Err, IfErr, IsErrAnd, refl}
 use Rattle.std.specs.List.{flat_map, AllByRecursion}
-use Rattle.std.specs.Int.{w32, to_be_bytes}
 use Rattle.std.specs.FinMap as map
 use Rattle.std.proofs.Common.{inl, inr, sym, ◌∙◌, ap, subst, arith, length-append}
 use Rattle.std.proofs.lemmas.Bool.Decides.{nat_tests}
@@ -9,29 +8,27 @@ use Rattle.durability_core.specs.declared.chain.Chain.{Chain}
 use Rattle.durability_core.specs.Chains.{IsChain, IsName}
 use Rattle.magma_disk.specs.declared.disk.DiskDone.{DiskDone}
 use Rattle.magma_disk.specs.declared.disk.DiskDone.TheVariants as done
-use Rattle.magma_disk.specs.Device.{Device, IsImage, settled}
+use Rattle.magma_disk.specs.Device.{Device, IsImage}
 use Rattle.magma_disk.specs.Calls.{MayLeave, Syncs, Settles, SeesAnImage}
-use Rattle.magma_disk.specs.Moments.{Throughout, LeaveOnly}
+use Rattle.magma_disk.specs.Moments.{Throughout}
 use Rattle.magma_disk.proofs.Moments.{weaker, onward, no_more}
 use Rattle.magma_disk.proofs.SyncedCalls.{settle_moments}
-use Rattle.magma_disk.proofs.Images.{settled_only}
 use Rattle.magma_store.specs.declared.fault.StoreFault.{StoreFault}
 use Rattle.magma_store.specs.declared.fault.StoreFault.TheVariants as fault
-use Rattle.magma_store.specs.declared.kinds.TheConstants.{SPENT, MAGIC}
+use Rattle.magma_store.specs.declared.kinds.TheConstants.{SPENT}
 use Rattle.magma_store.specs.declared.loading.Loaded.{Loaded}
 use Rattle.magma_store.specs.declared.meta.Meta.{Meta}
-use Rattle.magma_store.specs.declared.meta.Numbers.{Numbers}
 use Rattle.magma_store.specs.declared.opening.Opened.{Opened}
-use Rattle.magma_store.specs.Changes.{Sets, AreNumbers, AreWords, IsChange, name_bytes, made_bytes, change_bytes}
-use Rattle.magma_store.specs.Held.{Held, first_held, numbers_of, with_numbers, IsStore, IsUnused}
-use Rattle.magma_store.specs.Journal.{IsJournal, IsAtRest, IsFile, journal_bytes, record_bytes, CanBeCounted}
-use Rattle.magma_store.specs.Layout.{LaysNumbers, LaysNew, made_size, sets_size}
-use Rattle.magma_store.specs.Loading.{LeadIn, Tells, TellsAll, IsLoadedBy, IsLoaded, IsUnloaded}
-use Rattle.magma_store.specs.Opening.{shown_at, IsFound, LeavesOpened, Comes, ComesOf, Finishes, IsOthers, MayOpen}
-use Rattle.magma_store.specs.Store.{IsOwn, IsOpen, LeadTo, Either, raised, spent_number, CanBeOpened, IsMade, IsRaised, IsRefused, LeavesOpening, LeavesSame, LeavesDisk, Opens}
+use Rattle.magma_store.specs.Changes.{Sets, AreNumbers, IsChange, name_bytes, made_bytes, change_bytes}
+use Rattle.magma_store.specs.Held.{first_held, numbers_of, with_numbers, IsStore, IsUnused}
+use Rattle.magma_store.specs.Journal.{IsJournal, IsAtRest, IsFile, journal_bytes, record_bytes}
+use Rattle.magma_store.specs.Layout.{LaysNew, sets_size}
+use Rattle.magma_store.specs.Loading.{LeadIn, Tells, TellsAll, IsLoaded, IsUnloaded}
+use Rattle.magma_store.specs.Opening.{shown_at, IsFound, LeavesOpened, ComesOf, Finishes, IsOthers, MayOpen}
+use Rattle.magma_store.specs.Store.{IsOwn, raised, spent_number, CanBeOpened, IsRefused, LeavesOpening, LeavesSame, LeavesDisk, Opens}
 use Rattle.magma_store.proofs.Leading.{lead_none, lead_more}
 use Rattle.magma_store.proofs.Growing.{journal_more, record_len}
-use Rattle.magma_store.proofs.Storings.{IsBase, store_of, disk_of, open_of, base_more, either_left}
+use Rattle.magma_store.proofs.Storings.{IsBase, store_of, open_of, base_more, either_left}
 
 -- ---- how long the record is that makes a store
 

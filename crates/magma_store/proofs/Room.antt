@@ -199,10 +199,17 @@ get_back m (p ∷ ps) q =
 
 room_is : (s : Spot) → is_no_spot s ≡ true → s ≡ no_spot
 room_is s e =
-    let first = and_parts (nat_eq s.seqno 0) (nat_eq s.at 0 && nat_eq s.length 0) e in
-    let more = and_parts (nat_eq s.at 0) (nat_eq s.length 0) first.1 in
-    λ i. record
-    { seqno = eqb-true s.seqno 0 first.0 i; at = eqb-true s.at 0 more.0 i; length = eqb-true s.length 0 more.1 i }
+    let all = and_parts (nat_eq s.seqno 0) (nat_eq s.at 0 && (nat_eq s.length 0 && (nat_eq s.weight 0 && nat_eq s.cas 0))) e in
+    let behind = and_parts (nat_eq s.at 0) (nat_eq s.length 0 && (nat_eq s.weight 0 && nat_eq s.cas 0)) all.1 in
+    let more = and_parts (nat_eq s.length 0) (nat_eq s.weight 0 && nat_eq s.cas 0) behind.1 in
+    let last = and_parts (nat_eq s.weight 0) (nat_eq s.cas 0) more.1 in
+    λ i. record {
+      seqno = eqb-true s.seqno 0 all.0 i;
+      at = eqb-true s.at 0 behind.0 i;
+      length = eqb-true s.length 0 more.0 i;
+      weight = eqb-true s.weight 0 last.0 i;
+      cas = eqb-true s.cas 0 last.1 i;
+    }
 
 given_back : (own : Bool) (o : Option Spot) → o ≢ Some no_spot → taken own (roomed own o) ≡ o
 given_back true None leads = refl

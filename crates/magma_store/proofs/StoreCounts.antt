@@ -1,5 +1,5 @@
 -- The counts of calls one after another.
-use Rattle.std.proofs.Common.{◌≡◌, ℕ, ◌+◌, ◌-◌, ◌^◌, ◌≤◌, min, max, refl, ◌∙◌, arith}
+use Rattle.std.proofs.Common.{◌≡◌, ℕ, ◌-◌, ◌^◌, ◌≤◌, max, refl, ◌∙◌, arith}
 use Rattle.kv_edge.specs.Edge.{Rose}
 use Rattle.magma_disk.specs.Counting.{Counts, Climbs, CountsCall}
 use Rattle.magma_store.specs.Counting.{CountsStore}

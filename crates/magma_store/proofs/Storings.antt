@@ -1,5 +1,5 @@
 -- What a record more makes of a store, on the disk and in memory.
-use Rattle.std.specs.Prelude.{◌≡◌, ◌⊎◌, ℕ, ◌+◌, ◌≤◌, ◌<◌, ◌^◌, List, [], ◌∷◌, ◌++◌, length, take, Option, Some, None, refl}
+use Rattle.std.specs.Prelude.{◌≡◌, ◌⊎◌, ℕ, ◌+◌, List, [], ◌∷◌, ◌++◌, length, take, refl}
 use Rattle.std.specs.FinMap as map
 use Rattle.std.specs.Int.{w64, to_be_bytes}
 use Rattle.std.proofs.Common.{inl, inr, sym, ◌∙◌, ap, subst, arith, length-append}
@@ -11,15 +11,14 @@ use Rattle.magma_disk.specs.Moments.{Throughout, LeaveOnly}
 use Rattle.magma_disk.proofs.Moments.{started, no_more}
 use Rattle.magma_disk.proofs.Images.{settled_only}
 use Rattle.magma_store.specs.declared.journal.TheConstants.{SHUT}
-use Rattle.magma_store.specs.declared.meta.Meta.{Meta}
 use Rattle.magma_store.specs.declared.spot.Spot.{Spot}
 use Rattle.magma_store.specs.Changes.{Change, IsChange, change_bytes}
-use Rattle.magma_store.specs.Held.{Held, Becomes, records_of, IsHistory, IsStore, RestsWith, IsOnDisk}
-use Rattle.magma_store.specs.Journal.{record_bytes, piece_bytes, journal_bytes, IsJournal, IsAtRest, Rests}
-use Rattle.magma_store.specs.Loading.{LeadIn, Tells}
+use Rattle.magma_store.specs.Held.{Held, Becomes, records_of, IsHistory, IsStore, IsOnDisk}
+use Rattle.magma_store.specs.Journal.{piece_bytes, journal_bytes, IsJournal, IsAtRest, Rests}
+use Rattle.magma_store.specs.Loading.{LeadIn}
 use Rattle.magma_store.specs.Store.{Shown, LeadTo, IsOpen, Either}
 use Rattle.magma_store.proofs.Leading.{lead_more, lead_within}
-use Rattle.magma_store.proofs.Growing.{records_more, journal_more, journal_len, history_more}
+use Rattle.magma_store.proofs.Growing.{records_more, journal_len, history_more}
 
 -- records are those of a store that holds this, and fill so many bytes
 pub record IsBase (records : List (List ℕ)) (held : Held) (filled : ℕ) : Type 0 where

@@ -1,17 +1,16 @@
 -- What was read goes on by a record.
-use Rattle.std.specs.Prelude.{◌≡◌, ◌≢◌, ◌⊎◌, Result, Ok, Err, IfErr, IsErrAnd, ℕ, ◌+◌, ◌-◌, ◌≤◌, ◌<◌, ◌^◌, zero, suc, nat_eq, Bool, true, false, cond, List, [], ◌∷◌, ◌++◌, length, take, drop, map as list_map, Option, Some, None, IfSome, if◌then◌else◌, refl}
-use Rattle.std.specs.List.{flat_map, AllByRecursion}
-use Rattle.std.specs.Int.{Width, w8, w32, w64, byte_len, to_be_bytes}
+use Rattle.std.specs.Prelude.{◌≡◌, Result, Ok, Err, IfErr, IsErrAnd, ℕ, ◌+◌, ◌≤◌, ◌<◌, ◌^◌, zero, suc, Bool, true, false, cond, List, [], ◌∷◌, ◌++◌, length, drop, Option, Some, None, refl}
+use Rattle.std.specs.List.{AllByRecursion}
+use Rattle.std.specs.Int.{w64, to_be_bytes}
 use Rattle.std.specs.Ordering.{eq_by_cmp}
 use Rattle.std.specs.FinMap as map
 use Rattle.std.proofs.Common.{Bor, inl, inr, sym, ◌∙◌, ap, subst, arith, append_assoc, length-append, length-drop}
-use Rattle.std.proofs.lemmas.List.{append-nil, drop_at}
+use Rattle.std.proofs.lemmas.List.{drop_at}
 use Rattle.doc_model.specs.declared.key.DocKey.{DocKey}
 use Rattle.doc_model.specs.declared.document.Item.{Item}
 use Rattle.doc_model.specs.Keys.{key_cmp}
 use Rattle.doc_model.proofs.Entries.{keys_total}
 use Rattle.doc_model.proofs.Drops.{get_kept}
-use Rattle.durability_core.specs.declared.chain.Chain.{Chain}
 use Rattle.vb_log.specs.Stored.{IsStorable}
 use Rattle.vb_log.specs.Contents.{item_bytes}
 use Rattle.magma_store.specs.declared.fault.StoreFault.{StoreFault}
@@ -22,19 +21,19 @@ use Rattle.magma_store.specs.declared.journal.TheConstants.{OPEN}
 use Rattle.magma_store.specs.declared.loading.Loaded.{Loaded}
 use Rattle.magma_store.specs.declared.meta.Meta.{Meta}
 use Rattle.magma_store.specs.declared.spot.Spot.{Spot}
-use Rattle.magma_store.specs.Changes.{Change, Sets, Writes, AreNumbers, IsChange, made_bytes, change_bytes}
+use Rattle.magma_store.specs.Changes.{Change, Sets, Writes, AreNumbers, IsChange, change_bytes}
 use Rattle.magma_store.specs.Counting.{IsReadFault}
-use Rattle.magma_store.specs.Forms.{Form, end, field, run, all_items, FieldAt, ItemAt, Breaks, IsBroken, made_form, change_form, next_form, IsUnsized, KeepForm, IsDamaged, HeldBreaks}
-use Rattle.magma_store.specs.Held.{first_held, numbers_of, with_numbers, records_of, AreDropped, IsHistory}
-use Rattle.magma_store.specs.Journal.{record_bytes, journal_bytes, CanBeCounted, IsJournal, IsNext}
+use Rattle.magma_store.specs.Forms.{Form, end, field, run, all_items, Breaks, IsBroken, made_form, change_form, next_form, IsUnsized, KeepForm, IsDamaged}
+use Rattle.magma_store.specs.Held.{first_held, numbers_of, with_numbers, records_of, AreDropped}
+use Rattle.magma_store.specs.Journal.{record_bytes, journal_bytes, IsNext}
 use Rattle.magma_store.specs.Loading.{LeadIn, Tells, TellsAll, IsLoadedBy, IsLoaded, IsUnloaded}
 use Rattle.magma_store.specs.declared.meta.Numbers.{Numbers}
 use Rattle.magma_store.specs.declared.reading.Told.{Told}
 use Rattle.magma_store.specs.declared.reading.Told.TheVariants as told
 use Rattle.magma_store.specs.declared.spot.Placed.{Placed}
 use Rattle.magma_store.specs.Reading.{IsTold, Tells as ReadsAs}
-use Rattle.magma_store.specs.Spots.{AllLead, no_spot, placed, with_spots}
-use Rattle.magma_store.specs.Taking.{IsBegun, spots_left, Moves, TakesChange, IsSound, BreaksWithin, IsReadTo, NextIs}
+use Rattle.magma_store.specs.Spots.{AllLead, no_spot, spot_at, placed, with_spots}
+use Rattle.magma_store.specs.Taking.{IsBegun, spots_left, Moves, TakesChange, BreaksWithin, IsReadTo, NextIs}
 use Rattle.magma_store.proofs.Leading.{lead_none}
 use Rattle.magma_store.proofs.Growing.{all_more, records_more, journal_more, journal_len, history_more, Follows, follows}
 
@@ -141,7 +140,7 @@ all_insert spots key spot some lead q is = go (eq_by_cmp key_cmp q key) (sym (ma
 pub all_placed : (is : List Item) (at : ℕ) (spots : map.FinMap key_cmp Spot) → AllByRecursion IsStorable is → AllLead spots → AllLead (with_spots spots (placed at is))
 all_placed [] at spots ok lead = lead
 all_placed (i ∷ is) at spots ok lead =
-    let spot : Spot = record { seqno = i.seqno; at = at; length = length (item_bytes i) } in
+    let spot = spot_at at i in
     let some : spot ≡ no_spot → ⊥ = λ (e : spot ≡ no_spot). absurd (let s : i.seqno ≡ 0 = ap (λ (x : Spot). x.seqno) e in let l = ok.0.later in omega arith) in
     all_placed is (at + length (item_bytes i)) (map.insert spots i.key spot) ok.1 (all_insert spots i.key spot some lead)
 

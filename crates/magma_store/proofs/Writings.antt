@@ -1,7 +1,7 @@
 -- What a write, and the setting of numbers, make of a store.
-use Rattle.std.specs.Prelude.{◌≡◌, ◌⊎◌, ℕ, ◌+◌, ◌≤◌, ◌<◌, ◌^◌, nat_eq, is_some, Bool, true, false, cond, ◌&&◌, ◌||◌, not, find, sum, map as list_map, List, [], ◌∷◌, ◌++◌, length, drop, Option, Some, None, Result, Ok, Err, OnOk, IsTrue, if◌then◌else◌, refl}
-use Rattle.std.specs.List.{flat_map, AllByRecursion, list_any, list_all, sum_by}
-use Rattle.std.specs.Int.{w32, w64, to_be_bytes}
+use Rattle.std.specs.Prelude.{◌≡◌, ◌⊎◌, ℕ, ◌+◌, nat_eq, is_some, Bool, true, false, cond, ◌||◌, not, find, sum, map as list_map, List, [], ◌∷◌, ◌++◌, length, drop, Some, Result, Ok, Err, OnOk, IsTrue, refl}
+use Rattle.std.specs.List.{flat_map, AllByRecursion, list_any}
+use Rattle.std.specs.Int.{w32, to_be_bytes}
 use Rattle.std.specs.FinMap as map
 use Rattle.std.proofs.Common.{inl, inr, sym, ◌∙◌, ap, subst, arith, length-append}
 use Rattle.std.proofs.lemmas.Bool.{and_parts, eqb-true}
@@ -11,9 +11,8 @@ use Rattle.std.proofs.lemmas.List.Sums.{sum-map}
 use Rattle.doc_model.specs.declared.document.Item.{Item}
 use Rattle.doc_model.specs.Keys.{key_cmp, is_in}
 use Rattle.manifest_rules.specs.declared.types.Collection.{Collection}
-use Rattle.manifest_rules.specs.Catalog.{Catalog, scope_ids, collections_in, collection_ids, collection_at}
-use Rattle.manifest_rules.specs.State.{is_sound, are_rising, are_gone, is_kept, state_of, IsAt}
-use Rattle.manifest_rules.specs.declared.types.TheConstants.{DROPPED_LIMIT}
+use Rattle.manifest_rules.specs.Catalog.{Catalog, collections_in, collection_ids}
+use Rattle.manifest_rules.specs.State.{is_kept, state_of, IsAt}
 use Rattle.manifest_rules.proofs.States.{same_state}
 use Rattle.magma_disk.specs.Device.{Device}
 use Rattle.magma_disk.specs.Moments.{Throughout}
@@ -25,8 +24,8 @@ use Rattle.magma_store.specs.declared.meta.Meta.{Meta}
 use Rattle.magma_store.specs.declared.meta.Numbers.{Numbers}
 use Rattle.magma_store.specs.declared.spot.Spot.{Spot}
 use Rattle.magma_store.specs.declared.spot.Placed.{Placed}
-use Rattle.magma_store.specs.Changes.{Change, Sets, Writes, AreNumbers, AreWords, IsChange, numbers_bytes, change_bytes}
-use Rattle.magma_store.specs.Held.{Held, numbers_of, with_numbers, with_items, items_left, Drops, AreDropped}
+use Rattle.magma_store.specs.Changes.{Change, Sets, Writes, AreWords, IsChange, change_bytes}
+use Rattle.magma_store.specs.Held.{Held, numbers_of, with_numbers, with_items, items_left, AreDropped}
 use Rattle.magma_store.specs.Journal.{IsJournal, IsAtRest, journal_bytes, record_bytes, piece_bytes}
 use Rattle.magma_store.specs.Layout.{write_size, sets_size, LaysWrite, LaysNumbers}
 use Rattle.magma_store.specs.Loading.{LeadIn}

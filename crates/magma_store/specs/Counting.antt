@@ -1,5 +1,5 @@
 -- What a store's calls count, and why reading one stops.
-use Rattle.std.specs.Prelude.{◌≡◌, ℕ}
+use Rattle.std.specs.Prelude.{◌≡◌}
 use Rattle.kv_edge.specs.Edge.{Rose}
 use Rattle.magma_disk.specs.Counting.{Counts, Climbs}
 use Rattle.magma_store.specs.declared.fault.StoreFault.{StoreFault}

@@ -1,5 +1,5 @@
 -- Where the bytes of a record break its form.
-use Rattle.std.specs.Prelude.{◌≡◌, ◌≢◌, ◌⊎◌, ℕ, zero, suc, ◌+◌, ◌-◌, ◌<◌, ◌≤◌, ◌^◌, nat_eq, nat_lt, List, [], ◌∷◌, ◌++◌, length, take, drop, if◌then◌else◌, Bool, true, false, Option, Some, None, map as list_map}
+use Rattle.std.specs.Prelude.{◌≡◌, ◌≢◌, ◌⊎◌, ℕ, zero, suc, ◌+◌, ◌-◌, ◌<◌, ◌≤◌, ◌^◌, nat_eq, nat_lt, List, [], ◌∷◌, ◌++◌, length, drop, if◌then◌else◌, Option, Some, None, map as list_map}
 use Rattle.std.specs.Int.{Width, w8, w32, w64, byte_len, to_be_bytes}
 use Rattle.std.specs.List.{AllByRecursion}
 use Rattle.doc_model.specs.declared.document.Item.{Item}
@@ -10,7 +10,7 @@ use Rattle.vb_log.specs.Stored.{IsStorable, NothingStored}
 use Rattle.magma_store.specs.declared.fields.FormFault.{FormFault}
 use Rattle.magma_store.specs.declared.fields.FormFault.TheVariants as fault
 use Rattle.magma_store.specs.declared.journal.TheConstants.{OPEN}
-use Rattle.magma_store.specs.declared.kinds.TheConstants.{MAGIC, OVER, ANEW, NUMBERS}
+use Rattle.magma_store.specs.declared.kinds.TheConstants.{MAGIC, OVER, NUMBERS}
 use Rattle.magma_store.specs.Journal.{journal_bytes, CanBeCounted}
 use Rattle.magma_store.specs.Changes.{Change, IsChange, made_bytes, change_bytes}
 

@@ -13,7 +13,7 @@ use Rattle.magma_store.specs.declared.meta.Numbers.{Numbers}
 use Rattle.magma_store.specs.declared.spot.Placed.{Placed}
 use Rattle.magma_store.specs.Changes.{AreNumbers, AreWords, name_bytes, numbers_bytes}
 use Rattle.magma_store.specs.Forms.{Form, field, run, any, exactly, between, accepted_within, names_form, FieldAt}
-use Rattle.magma_store.specs.Spots.{placed}
+use Rattle.magma_store.specs.Spots.{spot_at, placed}
 
 -- ---- one field
 
@@ -96,7 +96,7 @@ pub record ChainAt (bytes : List ℕ) (chain : Chain) (behind : List ℕ) : Type
 
 -- the key and the spot of an item that stands at an offset
 abbrev pub spot_of : ℕ → Item → Placed
-spot_of at i = record { key = i.key; spot = record { seqno = i.seqno; at = at; length = length (item_bytes i) } }
+spot_of at i = record { key = i.key; spot = spot_at at i }
 
 -- an item stands at the front, which is at an offset
 pub record PlacedAt (at : ℕ) (bytes : List ℕ) (place : Placed) (behind : List ℕ) : Type 0 where

@@ -1,5 +1,5 @@
 -- What is read of an item whose bytes stand on a device.
-use Rattle.std.specs.Prelude.{◌≡◌, ℕ, ◌≤◌, ◌^◌, nat_lt, filter, List, [], ◌∷◌}
+use Rattle.std.specs.Prelude.{◌≡◌, ℕ, ◌^◌, nat_lt, filter, List, [], ◌∷◌}
 use Rattle.std.specs.FinMap as map
 use Rattle.doc_model.specs.declared.document.Item.{Item}
 use Rattle.doc_model.specs.Keys.{key_cmp}

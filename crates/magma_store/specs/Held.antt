@@ -1,6 +1,6 @@
 -- What a store holds.
-use Rattle.std.specs.Prelude.{◌≡◌, ◌⊎◌, ℕ, ◌+◌, ◌<◌, Bool, List, [], ◌∷◌, length, map as list_map, Option, None, Some, if◌then◌else◌}
-use Rattle.std.specs.List.{list_any, flat_map, AllByRecursion}
+use Rattle.std.specs.Prelude.{◌≡◌, ◌⊎◌, ℕ, ◌<◌, Bool, List, [], ◌∷◌, length, map as list_map, if◌then◌else◌}
+use Rattle.std.specs.List.{AllByRecursion}
 use Rattle.std.specs.FinMap as map
 use Rattle.doc_model.specs.declared.document.Item.{Item}
 use Rattle.doc_model.specs.Keys.{key_cmp}

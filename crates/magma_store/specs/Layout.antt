@@ -1,5 +1,5 @@
 -- How many bytes the records of a store fill, and how many segments.
-use Rattle.std.specs.Prelude.{◌≡◌, ℕ, ◌+◌, ◌-◌, ◌/◌, Bool, List, [], length, sum, map as list_map}
+use Rattle.std.specs.Prelude.{◌≡◌, ℕ, ◌+◌, ◌-◌, ◌/◌, Bool, List, length, sum, map as list_map}
 use Rattle.doc_model.specs.declared.document.Item.{Item}
 use Rattle.durability_core.specs.declared.chain.Chain.{Chain}
 use Rattle.vb_log.specs.Contents.{item_bytes}

@@ -12,6 +12,7 @@ pub mod Taking
 pub mod Opening
 pub mod Writing
 pub mod Gotten
+pub mod Whole
 pub mod Gates
 pub mod Room
 pub mod Fronts

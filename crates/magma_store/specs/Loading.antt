@@ -1,20 +1,18 @@
 -- How far the records of a device were read.
-use Rattle.std.specs.Prelude.{◌≡◌, ℕ, ◌+◌, List, [], ◌++◌, ◌∷◌, length, Option, Some, None}
+use Rattle.std.specs.Prelude.{◌≡◌, ℕ, List, [], length, Option, Some, None}
 use Rattle.std.specs.FinMap as map
 use Rattle.doc_model.specs.declared.key.DocKey.{DocKey}
 use Rattle.doc_model.specs.declared.document.Item.{Item}
 use Rattle.doc_model.specs.Keys.{key_cmp}
 use Rattle.durability_core.specs.declared.chain.Chain.{Chain}
-use Rattle.magma_store.specs.declared.fields.FormFault.{FormFault}
-use Rattle.magma_store.specs.declared.fields.FormFault.TheVariants as broken
 use Rattle.magma_store.specs.declared.fault.StoreFault.{StoreFault}
 use Rattle.magma_store.specs.declared.fault.StoreFault.TheVariants as fault
 use Rattle.magma_store.specs.declared.loading.Loaded.{Loaded}
 use Rattle.magma_store.specs.declared.meta.Meta.{Meta}
 use Rattle.magma_store.specs.declared.spot.Spot.{Spot}
 use Rattle.magma_store.specs.Changes.{Change}
-use Rattle.magma_store.specs.Forms.{IsBroken, IsDamaged, next_form}
-use Rattle.magma_store.specs.Held.{Held, IsHistory, records_of, IsUnused, IsStore}
+use Rattle.magma_store.specs.Forms.{IsDamaged}
+use Rattle.magma_store.specs.Held.{Held, IsHistory, records_of}
 use Rattle.magma_store.specs.Journal.{IsJournal, journal_bytes}
 use Rattle.magma_store.specs.Store.{Leads}
 

@@ -1,5 +1,5 @@
 -- What is done of a device's store once the device is synced and read.
-use Rattle.std.specs.Prelude.{◌≡◌, ◌⊎◌, ℕ, ◌≤◌, ◌<◌, List, [], ◌∷◌, length, Option, Some, None, Result, Ok, Err}
+use Rattle.std.specs.Prelude.{◌≡◌, ◌⊎◌, ℕ, ◌<◌, List, [], ◌∷◌, length, Some, Result, Ok, Err}
 use Rattle.magma_disk.specs.Device.{Device}
 use Rattle.magma_disk.specs.Moments.{Throughout}
 use Rattle.durability_core.specs.declared.chain.Chain.{Chain}

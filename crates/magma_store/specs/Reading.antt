@@ -1,9 +1,7 @@
 -- What was read of a record.
-use Rattle.std.specs.Prelude.{◌≡◌, ℕ, ◌+◌, ◌<◌, Bool, List, ◌++◌, length}
-use Rattle.doc_model.specs.declared.document.Item.{Item}
+use Rattle.std.specs.Prelude.{◌≡◌, ℕ, ◌+◌, ◌<◌, List, length}
 use Rattle.durability_core.specs.declared.chain.Chain.{Chain}
 use Rattle.durability_core.specs.Chains.{IsChain}
-use Rattle.magma_store.specs.declared.meta.Numbers.{Numbers}
 use Rattle.magma_store.specs.declared.reading.Told.{Told}
 use Rattle.magma_store.specs.declared.reading.Told.TheVariants as told
 use Rattle.magma_store.specs.Changes.{Change, Sets, Writes, IsChange, made_bytes, change_bytes}

@@ -21,7 +21,7 @@ with_found spots (p ∷ ps) = with_found (with_found_one spots p) ps
 
 -- whether a spot is of no item
 abbrev pub is_no_spot : Spot → Bool
-is_no_spot spot = nat_eq spot.seqno 0 && (nat_eq spot.at 0 && nat_eq spot.length 0)
+is_no_spot spot = nat_eq spot.seqno 0 && (nat_eq spot.at 0 && (nat_eq spot.length 0 && (nat_eq spot.weight 0 && nat_eq spot.cas 0)))
 
 -- whether a key has room alone
 abbrev pub has_room : Option Spot → Bool

@@ -11,8 +11,9 @@ use Rattle.doc_model.specs.Values.{AreValues}
 use Rattle.durability_core.specs.declared.chain.Chain.{Chain}
 use Rattle.manifest_rules.specs.Catalog.{Catalog}
 use Rattle.manifest_rules.specs.State.{is_kept, state_of}
-use Rattle.vb_log.specs.Content.{has_collection}
+use Rattle.vb_log.specs.Content.{cas_of, has_collection}
 use Rattle.vb_log.specs.Contents.{item_bytes}
+use Rattle.vb_log.specs.Held.{item_weight}
 use Rattle.vb_log.specs.Parts.{is_behind}
 use Rattle.vb_log.specs.Stored.{IsStorable}
 use Rattle.magma_disk.specs.Device.{Device, IsImage}
@@ -55,6 +56,8 @@ pub record IsOwn (chain : Chain) (place : ℕ) (meta : Meta) : Type 0 where
 pub record StandsAt (bytes : List ℕ) (end : ℕ) (spot : Spot) (item : Item) : Type 0 where
   pub seqno : spot.seqno ≡ item.seqno
   pub len : spot.length ≡ length (item_bytes item)
+  pub weight : spot.weight ≡ item_weight item
+  pub cas : spot.cas ≡ cas_of item.what
   pub read : take spot.length (drop spot.at bytes) ≡ item_bytes item
   pub before : spot.at + spot.length ≤ end
 

@@ -1,5 +1,5 @@
 -- What one more record changes of what was read of those before it.
-use Rattle.std.specs.Prelude.{◌≡◌, ◌≢◌, ℕ, ◌+◌, ◌≤◌, ◌<◌, ◌^◌, Bool, not, List, ◌++◌, length, IfSome, if◌then◌else◌}
+use Rattle.std.specs.Prelude.{◌≡◌, ℕ, ◌+◌, ◌≤◌, ◌<◌, ◌^◌, Bool, not, List, ◌++◌, length, IfSome, if◌then◌else◌}
 use Rattle.std.specs.FinMap as map
 use Rattle.doc_model.specs.Keys.{key_cmp, is_in}
 use Rattle.durability_core.specs.declared.chain.Chain.{Chain}

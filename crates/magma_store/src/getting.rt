@@ -15,7 +15,8 @@ ghost use Rattle.magma_store.specs.Store.{IsUnread, LeadTo, AreSince};
 use crate::fault::StoreFault;
 use crate::journal::read_bytes;
 use crate::spot::Spot;
-use doc_model::{DocKey, Item, KeyMap};
+use crate::spot_map::SpotMap;
+use doc_model::{DocKey, Item};
 use kv_edge::NoMemory;
 use magma_disk::Disk;
 use std::alloc::Global;
@@ -77,7 +78,7 @@ fn of_key(found: Option<Item>, key: &DocKey) -> Option<Item>
 pub(crate) fn items_behind<D: Disk>(
     alloc: Global,
     disk: &mut D,
-    spots: &KeyMap<Spot>,
+    spots: &SpotMap,
     seqno: u64,
 ) -> Result<Vec<Item>, StoreFault>
     ensures found { (items : map.FinMap key_cmp Item) (end : ℕ) → LeadTo spots.now items end (D.states disk.old) → end ≤ 2 ^ 62
@@ -94,7 +95,7 @@ pub(crate) fn items_behind<D: Disk>(
 }
 
 /// The spots behind a sequence number.
-fn spots_behind(alloc: Global, spots: &KeyMap<Spot>, seqno: u64) -> Result<Vec<Spot>, NoMemory>
+fn spots_behind(alloc: Global, spots: &SpotMap, seqno: u64) -> Result<Vec<Spot>, NoMemory>
     ensures { IfOk result (λ found. AreSpotsBehind seqno spots.now found.items) }
 {
     let all = all_spots(alloc, spots)?;
@@ -102,7 +103,7 @@ fn spots_behind(alloc: Global, spots: &KeyMap<Spot>, seqno: u64) -> Result<Vec<S
 }
 
 /// All spots, that of each key once, in an order that is left open.
-fn all_spots(alloc: Global, spots: &KeyMap<Spot>) -> Result<Vec<Spot>, NoMemory>
+fn all_spots(alloc: Global, spots: &SpotMap) -> Result<Vec<Spot>, NoMemory>
     ensures { IfOk result (λ all. AreValues spots.now all.items) }
 {
     let mut all = Vec::new(alloc);

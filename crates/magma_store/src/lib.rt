@@ -17,6 +17,8 @@
 //! | `Store::replace`, `Store::write` anew | a batch in place of all items, and other numbers and tail |
 //! | `Store::promise` | the same with another promise |
 //! | `Store::get`, `Store::since` | the same: they answer from it |
+//! | `Store::has`, `Store::weight_at`, `Store::weight`, `Store::weight_in` | the same: they answer without the disk |
+//! | `Store::beside_items`, `Store::is_whole_with` | the same: they judge without the disk what its items make with the rest |
 //!
 //! # What a crash leaves
 //!
@@ -52,6 +54,7 @@
 //! Numbers have the highest byte first. docs/STORE.md has a worked example and the reasons.
 #![tactic(auto)]
 
+mod asking;
 mod cleaning;
 mod fault;
 mod fields;
@@ -68,13 +71,18 @@ mod opening;
 mod reading;
 mod spelling;
 mod spot;
+mod spot_map;
 mod store;
+mod weighing;
+mod whole;
+#[cfg(test)]
+mod whole_tests;
 mod writing;
 
 pub use cleaning::{Account, Cleaned};
 pub use fault::StoreFault;
 pub use kinds::{SEGMENT, SEGMENTS, SPENT, store_numbers};
-pub use laws::{a_device_is_one_thing, what_is_on_disk_survives};
+pub use laws::{a_content_has_a_stores_parts, a_device_is_one_thing, what_is_on_disk_survives};
 pub use meta::Meta;
 pub use spot::Spot;
 pub use store::Store;

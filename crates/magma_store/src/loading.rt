@@ -16,8 +16,8 @@ use crate::index::{dropped_in, insert_all};
 use crate::journal::next_record;
 use crate::meta::{Meta, Numbers};
 use crate::reading::{Told, change_of, made_of};
-use crate::spot::{Placed, Spot};
-use doc_model::KeyMap;
+use crate::spot::Placed;
+use crate::spot_map::SpotMap;
 use durability_core::Chain;
 use kv_edge::{Bytes, NoMemory};
 use magma_disk::Disk;
@@ -34,7 +34,7 @@ pub(crate) const HEAD: u64 = 9;
 pub(crate) struct Loaded {
     /// What stands beside the items, where a store was made.
     pub(crate) meta: Option<Meta>,
-    pub(crate) spots: KeyMap<Spot>,
+    pub(crate) spots: SpotMap,
     /// How many bytes the records fill.
     pub(crate) filled: u64,
 }
@@ -51,7 +51,7 @@ pub(crate) fn load<D: Disk>(alloc: Global, disk: &mut D) -> Result<Loaded, Store
 {
     let mut loaded = Loaded {
         meta: None,
-        spots: KeyMap::new(alloc),
+        spots: SpotMap::new(alloc),
         filled: 0,
     };
     for _ in 0..u64::MAX {
@@ -143,7 +143,7 @@ pub(crate) fn first_meta(alloc: Global, chain: Chain, place: u8) -> Meta
 /// Takes what a record behind the first says, that stands from an offset on, and answers what then stands beside the items.
 fn changed(
     alloc: Global,
-    spots: &mut KeyMap<Spot>,
+    spots: &mut SpotMap,
     meta: Meta,
     held: &[u8],
     at: u64,
@@ -184,7 +184,7 @@ fn set_numbers(meta: &mut Meta, numbers: Numbers)
 /// their place.
 fn take_places(
     alloc: Global,
-    spots: &mut KeyMap<Spot>,
+    spots: &mut SpotMap,
     is_anew: bool,
     tail: &[u8],
     places: &[Placed],
@@ -193,7 +193,7 @@ fn take_places(
 {
     let dropped = dropped_in(alloc, tail)?;
     if is_anew {
-        *spots = KeyMap::new(alloc);
+        *spots = SpotMap::new(alloc);
     } else {
         spots.remove_collections(&dropped);
     }

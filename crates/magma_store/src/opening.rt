@@ -18,8 +18,7 @@ use crate::kinds::SPENT;
 use crate::loading::{Loaded, first_meta, load};
 use crate::meta::{Meta, Numbers};
 use crate::spelling::{made_piece, sets_piece};
-use crate::spot::Spot;
-use doc_model::KeyMap;
+use crate::spot_map::SpotMap;
 use durability_core::Chain;
 use kv_edge::{Bytes, Copied, NoMemory};
 use magma_disk::{Disk, DiskDone};
@@ -29,7 +28,7 @@ use std::alloc::Global;
 #[derive(Drop)]
 pub(crate) struct Opened {
     pub(crate) meta: Meta,
-    pub(crate) spots: KeyMap<Spot>,
+    pub(crate) spots: SpotMap,
     /// How many bytes the records fill.
     pub(crate) filled: u64,
 }
@@ -110,7 +109,7 @@ fn make<D: Disk>(
     let piece = made_piece(alloc, chain, place)?;
     let opened = Opened {
         meta: first_meta(alloc, chain.copy(alloc)?, place),
-        spots: KeyMap::new(alloc),
+        spots: SpotMap::new(alloc),
         filled: piece.len() as u64,
     };
     match add(disk, 0, piece.as_slice()) {

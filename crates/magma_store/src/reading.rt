@@ -14,6 +14,7 @@ use crate::fields::{
 use crate::kinds::{ANEW, MAGIC, NUMBERS, OVER};
 use crate::meta::Numbers;
 use crate::spot::{Placed, Spot};
+use crate::weighing::{cas_of, weight_of};
 use doc_model::Item;
 use durability_core::Chain;
 use kv_edge::{Bytes, Seq};
@@ -204,13 +205,21 @@ fn place_at(
     match read_item(alloc, bytes) {
         Ok((item, size)) => {
             let (_, behind) = bytes.split_at(size);
+            let weight = weight_of(&item);
+            let cas = cas_of(&item.what);
             let Item {
                 key,
                 seqno,
                 what: _,
             } = item;
             let length = size as u32;
-            let spot = Spot { seqno, at, length };
+            let spot = Spot {
+                seqno,
+                at,
+                length,
+                weight,
+                cas,
+            };
             Ok((Placed { key, spot }, behind))
         }
         Err(ContentFault::Bad(_)) => Err(refused(bytes, u64::from(done), u64::from(count))),

@@ -19,6 +19,7 @@ use crate::journal::SHUT;
 use crate::kinds::{ANEW, MAGIC, NUMBERS, OVER};
 use crate::meta::Numbers;
 use crate::spot::{Placed, Spot};
+use crate::weighing::{cas_of, weight_of};
 use doc_model::Item;
 use durability_core::Chain;
 use kv_edge::{Bytes, Copied, NoMemory, Seq};
@@ -191,6 +192,14 @@ fn add_item(alloc: Global, piece: &mut Vec<u8>, item: &Item, at: u64) -> Result<
     let key = item.key.copy(alloc)?;
     let at = at + (before - 8) as u64;
     let seqno = item.seqno;
-    let spot = Spot { seqno, at, length };
+    let weight = weight_of(item);
+    let cas = cas_of(&item.what);
+    let spot = Spot {
+        seqno,
+        at,
+        length,
+        weight,
+        cas,
+    };
     Ok(Placed { key, spot })
 }

@@ -9,6 +9,10 @@ pub struct Spot {
     pub at: u64,
     /// How many bytes it has.
     pub length: u32,
+    /// What the item counts: its overhead, and the bytes of its key, its attributes and its value.
+    pub weight: u32,
+    /// The CAS of its document, or of its deletion.
+    pub cas: u64,
 }
 
 /// A key and where its item stands.

@@ -21,9 +21,9 @@ use crate::loading::{FILLED_LIMIT, HEAD};
 use crate::meta::Meta;
 use crate::opening::{Opened, numbers_of, open_on};
 use crate::spelling::{sets_piece, write_piece};
-use crate::spot::Spot;
+use crate::spot_map::SpotMap;
 use crate::writing::{put_places, room};
-use doc_model::{DocKey, Item, KeyMap};
+use doc_model::{DocKey, Item};
 use durability_core::Chain;
 use kv_edge::NoMemory;
 use magma_disk::{Disk, DiskDone};
@@ -38,7 +38,7 @@ use std::marker::Model;
 pub struct Store<D: Disk> {
     pub(crate) alloc: Global,
     pub(crate) disk: D,
-    pub(crate) spots: KeyMap<Spot>,
+    pub(crate) spots: SpotMap,
     pub(crate) meta: Meta,
     /// The offset of the gate behind the last record.
     pub(crate) filled: u64,

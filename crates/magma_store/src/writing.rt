@@ -1,16 +1,16 @@
 //! What a write needs before anything is written: room on the disk and in memory.
 
-ghost use Rattle.std.specs.Prelude.{◌≡◌, ◌+◌, ◌≤◌, ◌^◌, OnOk, OnErr};
-ghost use Rattle.std.specs.List.Sorted.{IsNonDecreasing};
+ghost use Rattle.std.specs.Prelude.{◌≡◌, ◌+◌, ◌≤◌, ◌<◌, ◌^◌, IsTrue, OnOk, OnErr};
+ghost use Rattle.manifest_rules.specs.State.{are_rising};
 ghost use Rattle.magma_store.specs.Layout as layouts;
-ghost use Rattle.magma_store.specs.Spots.{AllLead, with_spots};
+ghost use Rattle.magma_store.specs.Spots.{AllLead, with_spots, spots_size, places_size};
 ghost use Rattle.magma_store.specs.Taking.{spots_left};
 ghost use Rattle.magma_store.specs.Writing.{NoneIn};
 
 use crate::index::{insert_all, make_room, place_all};
 use crate::kinds::{SEGMENT, SEGMENTS};
-use crate::spot::{Placed, Spot};
-use doc_model::KeyMap;
+use crate::spot::Placed;
+use crate::spot_map::SpotMap;
 use kv_edge::NoMemory;
 use std::alloc::Global;
 
@@ -40,25 +40,40 @@ fn segments_of(filled: u64) -> u64
 /// are as before.
 pub(crate) fn put_places(
     alloc: Global,
-    spots: &mut KeyMap<Spot>,
+    spots: &mut SpotMap,
     is_anew: bool,
     dropped: &[u32],
     places: &[Placed],
 ) -> Result<(), NoMemory>
     requires lead { AllLead spots.old }
-    requires rise { IsNonDecreasing dropped.now }
+    requires rise { IsTrue (are_rising dropped.now) }
     requires apart { NoneIn dropped.now places.now }
     ensures ok { OnOk result (spots.new ≡ with_spots (spots_left is_anew dropped.now spots.old) places.now) }
     ensures err { OnErr result (spots.new ≡ spots.old) }
 {
     if is_anew {
-        let mut anew = KeyMap::new(alloc);
+        let mut anew = SpotMap::new(alloc);
         insert_all(alloc, &mut anew, places)?;
         *spots = anew;
         return Ok(());
     }
+    check_size(spots, places)?;
     make_room(alloc, spots, places)?;
     spots.remove_collections(dropped);
     place_all(spots, places);
+    Ok(())
+}
+
+/// Refuses places whose items would count more than 64 bits tell beside those of the spots.
+fn check_size(spots: &SpotMap, places: &[Placed]) -> Result<(), NoMemory>
+    ensures { OnOk result (spots_size spots.now + places_size places.now < 2 ^ 64) }
+{
+    let mut total = spots.size();
+    for place in places {
+        total = match total.checked_add(u64::from(place.spot.weight)) {
+            Some(more) => more,
+            None => return Err(NoMemory),
+        };
+    }
     Ok(())
 }

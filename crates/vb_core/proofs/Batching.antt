@@ -1,5 +1,5 @@
 -- The batch that is put on disk: what it counts, and what the store's items are once it is there.
-use Rattle.std.specs.Prelude.{◌≡◌, ◌≤◌, ◌<◌, ℕ, ◌+◌, nat_eq, nat_lt, Bool, true, false, cond, not, sum, map as list_map, List, [], ◌∷◌, length, IsTrue, Option, Some, None, option_map, if◌then◌else◌, ◌||◌, refl}
+use Rattle.std.specs.Prelude.{◌≡◌, ◌≤◌, ◌<◌, ℕ, ◌+◌, nat_eq, nat_lt, Bool, true, false, cond, not, sum, map as list_map, List, [], ◌∷◌, length, IsTrue, Option, Some, None, if◌then◌else◌, ◌||◌, refl}
 use Rattle.std.specs.FinMap as map
 use Rattle.std.specs.List.{list_any, AllByRecursion}
 use Rattle.std.specs.Ordering.{eq_by_cmp}
@@ -19,15 +19,15 @@ use Rattle.manifest_rules.specs.State.{is_kept}
 use Rattle.vb_log.specs.Content.{Content, has_collection}
 use Rattle.vb_log.specs.Contents.{item_bytes}
 use Rattle.vb_log.specs.Flushing.{AreByPosition}
-use Rattle.vb_log.specs.Held.{item_weight, StandAtKeys}
+use Rattle.vb_log.specs.Held.{items_size, StandAtKeys}
 use Rattle.vb_log.specs.Parts.{difference, is_behind}
 use Rattle.magma_store.specs.Held.{with_items}
 use Rattle.magma_store.specs.Layout.{record_size, write_size}
 use Rattle.magma_store.proofs.Writings.{none_dropped}
 use Rattle.vb_core.specs.Flat.{batch_of, tail_of, size_of_write}
-use Rattle.vb_core.specs.Means.{beneath, over, size_beneath, Shows, MadeUpTo, MadeBehind}
-use Rattle.vb_core.specs.Noting.{noted}
-use Rattle.vb_core.proofs.Laid.{is_of, is_among, either_of, get_over, get_noted}
+use Rattle.vb_core.specs.Means.{beneath, over, uncovered, Shows, MadeUpTo, MadeBehind}
+use Rattle.vb_core.proofs.Covering.{all_shown}
+use Rattle.vb_core.proofs.Laid.{is_of, is_among, get_over}
 
 -- ---- what the items in memory are
 
@@ -55,12 +55,12 @@ isnt_later : (n : ℕ) (i : Item) → i.seqno ≤ n → nat_lt n i.seqno ≡ fal
 isnt_later n i most = grind (arith, nat_tests)
 
 -- what is in memory is what lies behind what is on disk, or all where the log was begun anew
-pub items_are : (is_anew : Bool) (n : ℕ) (recent log : Content) (flushed : map.FinMap key_cmp ℕ) (items : map.FinMap key_cmp Item) → Shows recent flushed (beneath is_anew log.manifest items) log
+pub items_are : (is_anew : Bool) (n : ℕ) (recent log : Content) (showing : ℕ) (items : map.FinMap key_cmp Item) → Shows recent showing (beneath is_anew log.manifest items) log
     → (is_anew ≡ false → MadeUpTo n items) → (is_anew ≡ false → MadeBehind n recent.items) → recent.items ≡ items_put is_anew n log
-items_are true n recent log flushed items s on_disk recently =
+items_are true n recent log showing items s on_disk recently =
     map.same_map keys_total exact_keys _ _ (λ q.
     sym (s.items q ∙ ap (over (map.get recent.items q)) (map.get-empty key_cmp q) ∙ over_none (map.get recent.items q)))
-items_are false n recent log flushed items s on_disk recently =
+items_are false n recent log showing items s on_disk recently =
     map.same_map keys_total exact_keys _ _ (λ q.
     go q (map.get recent.items q) refl (map.get (beneath false log.manifest items) q) refl (s.items q)
     ∙ sym (get_kept log.items (λ key. is_behind n (map.get log.items key)) q))
@@ -90,9 +90,9 @@ size_is is_anew n recent log batch tail by spelled are =
 
 -- ---- what the store's items are then
 
-pub log_is : (is_anew : Bool) (recent log : Content) (flushed : map.FinMap key_cmp ℕ) (items : map.FinMap key_cmp Item) (batch : List Item) → Shows recent flushed (beneath is_anew log.manifest items) log → StandAtKeys recent.items
+pub log_is : (is_anew : Bool) (recent log : Content) (showing : ℕ) (items : map.FinMap key_cmp Item) (batch : List Item) → Shows recent showing (beneath is_anew log.manifest items) log → StandAtKeys recent.items
     → AreByPosition recent.items batch → log.items ≡ with_items (beneath is_anew log.manifest items) batch
-log_is is_anew recent log flushed items batch s stand by =
+log_is is_anew recent log showing items batch s stand by =
     map.same_map keys_total exact_keys _ _ (λ q. s.items q ∙ sym (get_over recent.items batch (beneath is_anew log.manifest items) q stand by))
 
 -- what is so of each item's key is so of a key that one of them has
@@ -109,10 +109,10 @@ pub isnt_dropped : (manifest : Catalog) (i : Item) → IsTrue (is_kept manifest)
 isnt_dropped manifest i kept there = (none_dropped manifest manifest.dropped_collections 0 (i ∷ []) kept refl (there, tt)).0
 
 -- nothing of a log is in a dropped collection
-pub none_beneath : (is_anew : Bool) (recent log : Content) (flushed : map.FinMap key_cmp ℕ) (items : map.FinMap key_cmp Item) (batch : List Item) → Shows recent flushed (beneath is_anew log.manifest items) log → StandAtKeys recent.items
+pub none_beneath : (is_anew : Bool) (recent log : Content) (showing : ℕ) (items : map.FinMap key_cmp Item) (batch : List Item) → Shows recent showing (beneath is_anew log.manifest items) log → StandAtKeys recent.items
     → AreByPosition recent.items batch → IsTrue (is_kept log.manifest) → AllByRecursion (λ (i : Item). IsTrue (has_collection log.manifest i.key.collection)) batch
     → (q : DocKey) → list_any (nat_eq q.collection) log.manifest.dropped_collections ≡ true → map.get log.items q ≡ None
-none_beneath is_anew recent log flushed items batch s stand by kept present q gone =
+none_beneath is_anew recent log showing items batch s stand by kept present q gone =
     s.items q ∙ go (map.get recent.items q) refl
   where
     under : (b : Bool) → map.get (beneath b log.manifest items) q ≡ None
@@ -139,24 +139,20 @@ shows_whole log q none =
     go true e = sym (none e)
     go false e = refl
 
--- what is noted then of a key
-pub size_noted : (own : Option Item) (under : Option Item) → either_of item_weight own (size_beneath own under) ≡ option_map item_weight (over own under)
-size_noted (Some i) under = refl
-size_noted None under = refl
+-- all of a log's items count, where none of them was changed of late
+pub all_count : (log : Content) (under : map.FinMap key_cmp Item) (n : ℕ) → ((q : DocKey) → map.get under q ≡ map.get log.items q)
+    → n ≡ items_size log.items → n ≡ items_size (uncovered map.empty under)
+all_count log under n whole is = is ∙ ap items_size (sym (all_shown under ∙ map.same_map keys_total exact_keys under log.items whole))
 
 -- the log shows from what is on disk alone
-pub shows_after : (is_anew : Bool) (recent log : Content) (flushed after : map.FinMap key_cmp ℕ) (items : map.FinMap key_cmp Item) (batch : List Item) → Shows recent flushed (beneath is_anew log.manifest items) log → StandAtKeys recent.items
-    → AreByPosition recent.items batch → IsTrue (is_kept log.manifest) → AllByRecursion (λ (i : Item). IsTrue (has_collection log.manifest i.key.collection)) batch → after ≡ noted flushed batch
+pub shows_after : (is_anew : Bool) (recent log : Content) (showing after : ℕ) (items : map.FinMap key_cmp Item) (batch : List Item) → Shows recent showing (beneath is_anew log.manifest items) log → StandAtKeys recent.items
+    → AreByPosition recent.items batch → IsTrue (is_kept log.manifest) → AllByRecursion (λ (i : Item). IsTrue (has_collection log.manifest i.key.collection)) batch → after ≡ items_size log.items
     → Shows (record recent { items = map.empty }) after (beneath false log.manifest log.items) log
-shows_after is_anew recent log flushed after items batch s stand by kept present is = record {
+shows_after is_anew recent log showing after items batch s stand by kept present is = record {
   items = λ q. sym (ap (λ (o : Option Item). over o (map.get (beneath false log.manifest log.items) q)) (map.get-empty key_cmp q) ∙ whole q);
-  sizes = λ q.
-      ap (λ (m : map.FinMap key_cmp ℕ). map.get m q) is ∙ get_noted recent.items batch flushed q stand by ∙ ap (either_of item_weight (map.get recent.items q)) (s.sizes q)
-      ∙ size_noted (map.get recent.items q) (map.get (beneath is_anew log.manifest items) q)
-      ∙ ap (option_map item_weight) (sym (s.items q) ∙ sym (whole q))
-      ∙ sym (ap (λ (o : Option Item). size_beneath o (map.get (beneath false log.manifest log.items) q)) (map.get-empty key_cmp q));
+  count = all_count log (beneath false log.manifest log.items) after whole is;
   others = ap (λ (c : Content). record c { items = map.empty }) s.others;
 }
   where
     whole : (q : DocKey) → map.get (beneath false log.manifest log.items) q ≡ map.get log.items q
-    whole q = shows_whole log q (none_beneath is_anew recent log flushed items batch s stand by kept present q)
+    whole q = shows_whole log q (none_beneath is_anew recent log showing items batch s stand by kept present q)

@@ -1,53 +1,27 @@
 -- What a log begins with on what a store holds.
-use Rattle.std.specs.Prelude.{◌≡◌, ◌⊎◌, ℕ, Bool, true, false, List, [], ◌∷◌, ◌++◌, length, drop, Option, Some, None, refl}
-use Rattle.std.specs.FinMap as map
+use Rattle.std.specs.Prelude.{◌≡◌, ◌⊎◌, ℕ, Bool, true, false, List, [], ◌++◌, length, drop, Option, Some, None, Result, Ok, Err, IfOk, refl}
 use Rattle.std.proofs.Common.{sym, ◌∙◌, ap, subst, subst₂, inl, inr}
 use Rattle.std.proofs.lemmas.List.{drop_at}
-use Rattle.doc_model.specs.declared.document.Item.{Item}
-use Rattle.doc_model.specs.declared.key.DocKey.{DocKey}
-use Rattle.doc_model.specs.Keys.{key_cmp}
 use Rattle.manifest_rules.specs.Catalog.{Catalog}
 use Rattle.manifest_rules.specs.Rules.{first_catalog}
 use Rattle.manifest_rules.specs.State.{state_of}
 use Rattle.manifest_rules.proofs.States.{same_state}
 use Rattle.magma_disk.specs.Device.{Device}
 use Rattle.magma_store.specs.declared.meta.Meta.{Meta}
-use Rattle.magma_store.specs.declared.spot.Spot.{Spot}
 use Rattle.magma_store.specs.Held.{Held}
-use Rattle.magma_store.specs.Store.{Shown, IsOpen, LeadTo, Leads, AreSince}
+use Rattle.magma_store.specs.Store.{Shown, IsOpen}
+use Rattle.magma_store.specs.Whole.{bare_of, content_of}
 use Rattle.vb_log.specs.declared.entry.Pending.{Pending}
-use Rattle.vb_log.specs.Content.{Content}
-use Rattle.vb_log.specs.Held.{StandAtKeys}
+use Rattle.vb_log.specs.Content.{Content, no_content}
+use Rattle.vb_log.specs.Contents.{IsWhole}
 use Rattle.vb_log.specs.Prepares.{pending_bytes, widest}
-use Rattle.vb_log.specs.Stored.{IsStorable}
-use Rattle.vb_log.specs.Wholes.{AreParts}
 use Rattle.vb_log.proofs.PendingBytes.{same_pending, widest_bounds}
 use Rattle.copy_model.specs.Copies.{Pair}
-use Rattle.vb_core.specs.Beginning.{TailRead, NoneOf, BeginsOf, BeginsFrom}
+use Rattle.vb_core.specs.declared.opening.Begun.{Begun}
+use Rattle.vb_core.specs.Beginning.{TailRead, IsBroken, BeginsWithout}
 use Rattle.vb_core.specs.Openings.{IsSound}
 use Rattle.vb_core.specs.Pairs.{IsTail, IsNoTail, Tells, IsPair}
-use Rattle.vb_core.specs.Shown.{AreStorable}
-use Rattle.vb_core.proofs.Tails.{empty_tail, AreAll, since_all}
-
--- ---- the items of an open store
-
-led : (bytes : List ℕ) (end : ℕ) (key : DocKey) (item : Item) (spot : Option Spot) (o : Option Item) → o ≡ Some item → Leads bytes end key spot o → (item.key ≡ key) × IsStorable item
-led bytes end key item None None e l = absurd (cc)
-led bytes end key item (Some spot) None e l = absurd (cc)
-led bytes end key item None (Some i) e l = absurd l
-led bytes end key item (Some spot) (Some i) e l =
-    let same : i ≡ item = cc in
-    subst (λ (x : Item). (x.key ≡ key) × IsStorable x) same (l.0, l.1)
-
-led_all : (spots : map.FinMap key_cmp Spot) (items : map.FinMap key_cmp Item) (end : ℕ) (states : List Device) → LeadTo spots items end states → (key : DocKey) (item : Item) → map.get items key ≡ Some item → (item.key ≡ key) × IsStorable item
-led_all spots items end [] l key item at = absurd l
-led_all spots items end (d ∷ past) l key item at = led d.bytes end key item (map.get spots key) (map.get items key) at (l key)
-
-pub open_storable : {D : Type 0} (states : D → List Device) (held : Held) (store : Shown D) → IsOpen states held store → AreStorable held.items
-open_storable states held store is key item at = (led_all store.spots held.items store.layout (states store.disk) is.spots key item at).1
-
-pub open_own : {D : Type 0} (states : D → List Device) (held : Held) (store : Shown D) → IsOpen states held store → StandAtKeys held.items
-open_own states held store is key item at = (led_all store.spots held.items store.layout (states store.disk) is.spots key item at).0
+use Rattle.vb_core.proofs.Tails.{empty_tail, none_whole}
 
 -- ---- what was read of the tail
 
@@ -85,46 +59,73 @@ unsound_tail held d read s = go s.told
     go (inl nil) = read.0 nil
     go (inr t) = read.1 d.log.manifest d.log.prepares t
 
-unsound_parts : (held : Held) (items : List Item) (parts : Catalog × List Pending) (d : Pair Content ℕ) → TailRead held.meta.tail (Some parts) → AreAll held.items items → NoneOf items held.meta.cas held.meta.length (Some parts)
-    → IsPair held d.layout d → IsSound held d → ⊥
-unsound_parts held items parts d read all none p s =
-    let told = told_is held.meta.tail parts d.log.manifest d.log.prepares read p.tail_tells in
-    let has : AreParts items parts.1 parts.0 held.meta.cas held.meta.length d.log =
-    record { once = all.distinct; items_are = p.items_are ∙ sym all.made; prepares_are = told.1; manifest_is = told.0; cas_is = p.cas_is; length_is = p.length_is } in
-    none d.log has s.whole
+-- a pair of the store has the log that the store and its tail tell
+log_is : (held : Held) (d : Pair Content ℕ) (parts : Catalog × List Pending) → TailRead held.meta.tail (Some parts) → IsPair held d.layout d
+    → d.log ≡ content_of held parts.0 parts.1
+log_is held d parts read p = go (told_is held.meta.tail parts d.log.manifest d.log.prepares read p.tail_tells)
+  where
+    go : (d.log.manifest ≡ parts.0) × (d.log.prepares ≡ parts.1) → d.log ≡ content_of held parts.0 parts.1
+    go told i = record { items = p.items_are i; prepares = told.1 i; manifest = told.0 i; greatest_cas = p.cas_is i; length = p.length_is i }
 
-found_told : (held : Held) (items : List Item) (parts : Catalog × List Pending) (content : Content) → TailRead held.meta.tail (Some parts) → AreParts items parts.1 parts.0 held.meta.cas held.meta.length content
-    → ((held.meta.tail ≡ []) × (content.manifest ≡ first_catalog) × (content.prepares ≡ [])) ⊎ IsTail held.meta.tail content.manifest content.prepares
-found_told held items parts content (inl read) p = inl (read.0, p.manifest_is ∙ read.1, p.prepares_are ∙ read.2)
-found_told held items parts content (inr read) p = inr (subst₂ (λ (m : Catalog) (ps : List Pending). IsTail held.meta.tail m ps) (sym p.manifest_is) (sym p.prepares_are) read)
-
-from_held : (held : Held) (tail : Option (Catalog × List Pending)) (items : List Item) (content : Content) (is_anew : Bool) → AreAll held.items items → TailRead held.meta.tail tail
-    → BeginsOf items held.meta.cas held.meta.length tail content is_anew → BeginsFrom held content is_anew
-from_held held None items content true all read b = record {
-  none = b.0;
+-- the log begins anew, where nothing was read of the tail, or no whole content has what was read
+broken_tail : (held : Held) → TailRead held.meta.tail None → IsBroken held no_content
+broken_tail held read = record {
+  none = refl;
   manifest = first_catalog;
   prepares = [];
   tells = inr (read.1, refl, refl);
   unsound = λ d p s. unsound_tail held d read s;
 }
-from_held held (Some parts) items content true all read b = record {
-  none = b.0;
+
+broken_parts : (held : Held) (parts : Catalog × List Pending) → TailRead held.meta.tail (Some parts)
+    → (IsWhole (content_of held parts.0 parts.1) → ⊥) → IsBroken held no_content
+broken_parts held parts read none = record {
+  none = refl;
   manifest = parts.0;
   prepares = parts.1;
   tells = tells_read held.meta.tail parts read;
-  unsound = λ d p s. unsound_parts held items parts d read all b.1 p s;
-}
-from_held held None items content false all read b = absurd b
-from_held held (Some parts) items content false all read b = record {
-  items_are = b.items_are ∙ all.made;
-  told = found_told held items parts content read b;
-  cas_is = b.cas_is;
-  length_is = b.length_is;
+  unsound = λ d p s. none (subst IsWhole (log_is held d parts read p) s.whole);
 }
 
-pub begins_from : {D : Type 0} (states : D → List Device) (held : Held) (store : Shown D) (tail : Option (Catalog × List Pending)) (items : List Item) (content : Content) (is_anew : Bool) → IsOpen states held store
-    → TailRead store.meta.tail tail → AreSince 0 held.items items → BeginsOf items store.meta.cas store.meta.length tail content is_anew → BeginsFrom held content is_anew
-begins_from states held store tail items content is_anew is read since b =
-    from_held held tail items content is_anew (since_all held.items items (open_storable states held store is) (open_own states held store is) since)
-    (subst (λ (m : Meta). TailRead m.tail tail) is.meta read)
-    (subst (λ (m : Meta). BeginsOf items m.cas m.length tail content is_anew) is.meta b)
+found_told : (held : Held) (parts : Catalog × List Pending) → TailRead held.meta.tail (Some parts)
+    → ((held.meta.tail ≡ []) × (parts.0 ≡ first_catalog) × (parts.1 ≡ [])) ⊎ IsTail held.meta.tail parts.0 parts.1
+found_told held parts (inl read) = inl (read.0, read.1, read.2)
+found_told held parts (inr read) = inr read
+
+-- ---- it begins so on an open store
+
+anew_on : (held : Held) (rest : Content) (is_anew : Bool) → rest ≡ no_content → is_anew ≡ true → IsBroken held no_content
+    → BeginsWithout held rest is_anew
+anew_on held rest is_anew none anew b =
+    subst₂ (λ (r : Content) (a : Bool). BeginsWithout held r a) (sym none) (sym anew)
+    (record { content = no_content; from = b; rest_of = record { whole = none_whole; rest_is = refl } })
+
+-- the same, by what a log begins with that begins anew
+pub anew_begins : {E : Type 0} (held : Held) (r : Result Begun E) → IfOk r (λ b. b.content ≡ no_content) → IfOk r (λ b. b.is_anew ≡ true)
+    → IsBroken held no_content → IfOk r (λ b. BeginsWithout held b.content b.is_anew)
+anew_begins held (Ok b) none anew broken = anew_on held b.content b.is_anew none anew broken
+anew_begins held (Err e) none anew broken = tt
+
+-- an open store of whose tail this was read
+pub record IsRead {D : Type 0} (states : D → List Device) (held : Held) (store : Shown D) (parts : Option (Catalog × List Pending)) : Type 0 where
+  pub is_open : IsOpen states held store
+  pub read : TailRead store.meta.tail parts
+
+its_read : {D : Type 0} (states : D → List Device) (held : Held) (store : Shown D) (parts : Option (Catalog × List Pending)) → IsRead states held store parts
+    → TailRead held.meta.tail parts
+its_read states held store parts h = subst (λ (m : Meta). TailRead m.tail parts) h.is_open.meta h.read
+
+pub untold_on : {D : Type 0} (states : D → List Device) (held : Held) (store : Shown D) → IsRead states held store None → IsBroken held no_content
+untold_on states held store h = broken_tail held (its_read states held store None h)
+
+pub broken_on : {D : Type 0} (states : D → List Device) (held : Held) (store : Shown D) (parts : Catalog × List Pending) → IsRead states held store (Some parts)
+    → (IsWhole (content_of held parts.0 parts.1) → ⊥) → IsBroken held no_content
+broken_on states held store parts h none = broken_parts held parts (its_read states held store (Some parts) h) none
+
+pub found_on : {D : Type 0} (states : D → List Device) (held : Held) (store : Shown D) (parts : Catalog × List Pending) (rest : Content) → IsRead states held store (Some parts)
+    → rest ≡ bare_of store.meta parts.0 parts.1 → IsWhole (content_of held parts.0 parts.1) → BeginsWithout held rest false
+found_on states held store parts rest h is whole = record {
+  content = content_of held parts.0 parts.1;
+  from = record { is = refl; told = found_told held parts (its_read states held store (Some parts) h) };
+  rest_of = record { whole = whole; rest_is = is ∙ ap (λ (m : Meta). bare_of m parts.0 parts.1) h.is_open.meta };
+}

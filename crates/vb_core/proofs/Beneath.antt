@@ -1,13 +1,14 @@
 -- What a key has in a log, by what is in memory and what was read of the disk.
-use Rattle.std.specs.Prelude.{◌≡◌, ◌+◌, ◌*◌, ◌^◌, ℕ, max, is_some, Bool, true, false, cond, not, List, Option, Some, None, option_map, Result, Err, unwrap_or, refl}
+use Rattle.std.specs.Prelude.{◌≡◌, ◌+◌, ◌*◌, ◌^◌, ℕ, max, is_some, Bool, true, false, cond, not, IsTrue, List, Option, Some, None, Result, Err, unwrap_or, refl}
 use Rattle.std.specs.FinMap as map
 use Rattle.std.specs.List.{list_any}
 use Rattle.std.specs.Prelude.{nat_eq}
-use Rattle.std.specs.Option.{IfSome}
-use Rattle.std.proofs.Common.{inl, sym, ◌∙◌, ap}
+use Rattle.std.specs.Option.{IfSome, option_copied}
+use Rattle.std.proofs.Common.{inl, sym, ◌∙◌, ap, Bor}
 use Rattle.doc_model.specs.declared.key.DocKey.{DocKey}
 use Rattle.doc_model.specs.declared.document.Doc.{Doc}
 use Rattle.doc_model.specs.declared.document.Item.{Item}
+use Rattle.doc_model.specs.declared.document.What.TheVariants as whats
 use Rattle.doc_model.specs.declared.status.Status.{Status}
 use Rattle.doc_model.specs.declared.status.Refused.{Refused}
 use Rattle.doc_model.specs.declared.status.Refused.TheVariants as refusals
@@ -16,53 +17,71 @@ use Rattle.doc_model.proofs.Drops.{get_kept}
 use Rattle.kv_request.specs.declared.request.Request.{Request}
 use Rattle.kv_request.specs.Tables.{no_key, key_named, document_key}
 use Rattle.manifest_rules.specs.Catalog.{Catalog, max_ttl_of}
+use Rattle.manifest_rules.specs.State.{is_kept}
 use Rattle.doc_step.specs.declared.Change.{Change}
 use Rattle.doc_step.specs.Step.{document_step, Plans}
-use Rattle.vb_log.specs.Content.{Content, doc_in}
+use Rattle.vb_log.specs.Content.{Content, doc_in, has_collection, item_made}
 use Rattle.vb_log.specs.Stored.{IsStorable}
-use Rattle.magma_store.specs.Held.{items_left}
 use Rattle.magma_disk.specs.Device.{Device}
 use Rattle.copy_model.specs.Copies.{Copy}
 use Rattle.copy_model.specs.Requests.{setting_at, drawn, step_on}
 use Rattle.vb_core.specs.Coming.{Rests}
 use Rattle.vb_core.specs.Making.{PlansOn, drawn_by}
-use Rattle.vb_core.specs.Means.{Stands, over, size_beneath}
+use Rattle.vb_core.specs.Means.{Stands, beneath, over}
 use Rattle.vb_core.specs.Shown.{ShownVb, AreStorable}
+use Rattle.vb_core.proofs.Batching.{isnt_dropped}
 
 -- ---- where a key's item is
 
-pub some_mapped : {A B : Type 0} (f : A → B) (o : Option A) → is_some (option_map f o) ≡ is_some o
-some_mapped f None = refl
-some_mapped f (Some x) = refl
+-- whether a key has an item, by what was found of it
+pub some_copied : (found : Option (Bor Item)) (o : Option Item) (b : Bool) → option_copied found ≡ o → is_some found ≡ b → is_some o ≡ b
+some_copied found o b is e = ap is_some (sym is) ∙ go found ∙ e
+  where
+    go : (f : Option (Bor Item)) → is_some (option_copied f) ≡ is_some f
+    go None = refl
+    go (Some x) = refl
 
-pub in_memory : (recent under log : Option Item) → log ≡ over recent under → is_some recent ≡ true → over recent None ≡ log
+in_memory : (recent under log : Option Item) → log ≡ over recent under → is_some recent ≡ true → over recent None ≡ log
 in_memory None under log e is = absurd (cc)
 in_memory (Some item) under log e is = sym e
 
-pub nowhere : (recent under log : Option Item) (size : Option ℕ) → log ≡ over recent under → size ≡ size_beneath recent under
-    → is_some recent ≡ false → is_some size ≡ false → over recent None ≡ log
-nowhere (Some item) under log size e f is none = absurd (cc)
-nowhere None None log size e f is none = sym e
-nowhere None (Some item) log size e f is none = absurd (let g = ap (λ (o : Option ℕ). is_some o) f in cc)
+in_store : (recent under log held : Option Item) → log ≡ over recent under → is_some recent ≡ false → held ≡ under → over recent held ≡ log
+in_store (Some item) under log held e is same = absurd (cc)
+in_store None under log held e is same = same ∙ sym e
 
-pub on_disk : (recent under log held : Option Item) (size : Option ℕ) → log ≡ over recent under → size ≡ size_beneath recent under
-    → is_some recent ≡ false → is_some size ≡ true
-    → ((item : Item) → under ≡ Some item → held ≡ Some item) → over recent held ≡ log
-on_disk (Some item) under log held size e f is there from = absurd (cc)
-on_disk None None log held size e f is there from = absurd (let g = ap (λ (o : Option ℕ). is_some o) f in cc)
-on_disk None (Some item) log held size e f is there from = from item refl ∙ sym e
+-- a key of a collection that is there has beneath what it has on disk
+held_beneath : (anew : Bool) (manifest : Catalog) (items : map.FinMap key_cmp Item) (key : DocKey) → anew ≡ false → IsTrue (is_kept manifest)
+    → has_collection manifest key.collection ≡ true → map.get items key ≡ map.get (beneath anew manifest items) key
+held_beneath true manifest items key e kept there = absurd (cc)
+held_beneath false manifest items key e kept there =
+    sym (get_kept items (λ k. not (list_any (nat_eq k.collection) manifest.dropped_collections)) key
+    ∙ ap (λ b. cond (not b) (map.get items key) None) (isnt_dropped manifest (item_made 0 key (whats.Remove 0)) kept there))
 
-still_there : (b : Bool) (o : Option Item) (item : Item) → cond b o None ≡ Some item → o ≡ Some item
-still_there true o item e = e
-still_there false o item e = absurd (cc)
+-- where the log was begun anew, nothing lies beneath
+none_beneath : (anew : Bool) (manifest : Catalog) (items : map.FinMap key_cmp Item) (key : DocKey) → anew ≡ true
+    → map.get (beneath anew manifest items) key ≡ None
+none_beneath true manifest items key e = map.get-empty key_cmp key
+none_beneath false manifest items key e = absurd (cc)
 
--- an item that still shows is on the disk
-pub beneath_held : (is_anew : Bool) (dropped : List ℕ) (items : map.FinMap key_cmp Item) (key : DocKey) (item : Item)
-    → map.get (items_left is_anew dropped items) key ≡ Some item → map.get items key ≡ Some item
-beneath_held true dropped items key item e = absurd (let n = map.get-empty {X = Item} key_cmp key in cc)
-beneath_held false dropped items key item e =
-    still_there (not (list_any (nat_eq key.collection) dropped)) (map.get items key) item
-    (sym (get_kept items (λ k. not (list_any (nat_eq k.collection) dropped)) key) ∙ e)
+module _ {D : Type 0} (states : D → List Device) (vb : ShownVb D) (copy : Copy Content ℕ) (s : Stands states vb copy) (key : DocKey) where
+  -- nothing needs to be read where the log was begun anew, nor of a key that was changed of late
+  pub read_anew : vb.is_anew ≡ true → over (map.get vb.recent.items key) None ≡ map.get copy.log.items key
+  read_anew anew =
+      ap (over (map.get vb.recent.items key)) (sym (none_beneath vb.is_anew copy.log.manifest s.held.items key anew)) ∙ sym (s.shows.items key)
+
+  pub read_changed : is_some (map.get vb.recent.items key) ≡ true → over (map.get vb.recent.items key) None ≡ map.get copy.log.items key
+  read_changed changed =
+      in_memory (map.get vb.recent.items key) (map.get (beneath vb.is_anew copy.log.manifest s.held.items) key) (map.get copy.log.items key)
+      (s.shows.items key) changed
+
+  -- of other keys the item on disk is the log's
+  pub read_held : has_collection vb.recent.manifest key.collection ≡ true → vb.is_anew ≡ false
+      → is_some (map.get vb.recent.items key) ≡ false → over (map.get vb.recent.items key) (map.get s.held.items key) ≡ map.get copy.log.items key
+  read_held there anew none =
+      in_store (map.get vb.recent.items key) (map.get (beneath vb.is_anew copy.log.manifest s.held.items) key) (map.get copy.log.items key)
+      (map.get s.held.items key) (s.shows.items key) none
+      (held_beneath vb.is_anew copy.log.manifest s.held.items key anew s.whole.parts.kept
+      (ap (λ (c : Content). has_collection c.manifest key.collection) (sym s.shows.others) ∙ there))
 
 -- ---- the step on a key's document
 

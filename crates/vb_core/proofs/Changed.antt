@@ -1,6 +1,6 @@
 -- What a change comes to that is made, at once or behind a flush, or refused.
-use Rattle.std.specs.Prelude.{◌≡◌, ◌<◌, ◌≤◌, ℕ, ◌+◌, nat_le, nat_lt, Bool, true, false, ◌||◌, List, [], length, Option, Ok, Err, if◌then◌else◌, refl}
-use Rattle.std.proofs.Common.{inl, inr, sym, ◌∙◌, ap, subst, arith}
+use Rattle.std.specs.Prelude.{◌≡◌, ◌<◌, ◌≤◌, ℕ, ◌+◌, ◌-◌, nat_le, nat_lt, Bool, true, false, ◌||◌, List, [], length, Option, Ok, Err, if◌then◌else◌, refl}
+use Rattle.std.proofs.Common.{inl, inr, sym, ◌∙◌, ap, ap₂, subst, arith}
 use Rattle.std.proofs.lemmas.Bool.{and_from, le-leb}
 use Rattle.std.proofs.lemmas.Bool.Decides.{nat_tests}
 use Rattle.kv_request.specs.declared.request.Request.{Request}
@@ -34,13 +34,14 @@ use Rattle.copy_model.specs.declared.limits.TheConstants.{REQUEST_LIMIT, CAS_LIM
 use Rattle.copy_model.specs.Requests.{changing, refusal, is_too_much, after_put}
 use Rattle.vb_core.specs.declared.making.Made.TheVariants as made
 use Rattle.vb_core.specs.Coming.{Leaves, Rests}
-use Rattle.vb_core.specs.Covering.{without_covered, counted, grown, IsFlushedFirst, CanCount}
+use Rattle.vb_core.specs.Covering.{spots_shown, size_among, covered_size, counted, grown, IsFlushedFirst, CanCount}
 use Rattle.vb_core.specs.Flat.{flat}
 use Rattle.vb_core.specs.Making.{Covers, Makes}
 use Rattle.vb_core.specs.Means.{Stands, Lives, Stopped}
 use Rattle.vb_core.specs.Plans.{IsAtHome}
 use Rattle.vb_core.specs.Putting.{IsPut, Puts}
 use Rattle.vb_core.specs.Shown.{ShownVb}
+use Rattle.vb_core.proofs.Covering.{all_covered}
 use Rattle.vb_core.proofs.Lasting.{follows_entry, lives_entry}
 use Rattle.vb_core.proofs.Rested.{luck_of, rests_none, lives_rest, rests_leaves}
 
@@ -120,18 +121,25 @@ emptied_short h short =
     omega arith
 
 -- what a vbucket comes to of which the parts were changed one after another
-pub grown_is : {D : Type 0} (vb : ShownVb D) (after : Content) (left : map.FinMap key_cmp ℕ) (length bytes : ℕ) (e : Entry)
+pub grown_is : {D : Type 0} (vb : ShownVb D) (after : Content) (left length bytes : ℕ) (e : Entry)
     (covered : Option DocKey) (dropped : List ℕ)
-    → length ≡ after.length → after ≡ with_entry vb.recent e → left ≡ without_covered vb.flushed covered dropped
+    → length ≡ after.length → after ≡ with_entry vb.recent e → left ≡ vb.showing - covered_size vb covered dropped
     → bytes ≡ entry_length e
-    → counted bytes (record vb { core = record vb.core { length = length }; recent = after; flushed = left }) ≡ grown e covered dropped vb
+    → counted bytes (record vb { core = record vb.core { length = length }; recent = after; showing = left }) ≡ grown e covered dropped vb
 grown_is {D} vb after left length bytes e covered dropped long is gone size =
-    let at : ℕ → Content → map.FinMap key_cmp ℕ → ℕ → ShownVb D = λ n x f b. counted b
-    (record vb { core = record vb.core { length = n }; recent = x; flushed = f }) in
+    let at : ℕ → Content → ℕ → ℕ → ShownVb D = λ n x f b. counted b
+    (record vb { core = record vb.core { length = n }; recent = x; showing = f }) in
     ap (λ n. at n after left bytes) long
     ∙ ap (λ x. at x.length x left bytes) is
     ∙ ap (λ f. at (with_entry vb.recent e).length (with_entry vb.recent e) f bytes) gone
-    ∙ ap (λ b. at (with_entry vb.recent e).length (with_entry vb.recent e) (without_covered vb.flushed covered dropped) b) size
+    ∙ ap (λ b. at (with_entry vb.recent e).length (with_entry vb.recent e) (vb.showing - covered_size vb covered dropped) b) size
+
+-- behind a write all that is on disk shows
+pub all_behind : {D : Type 0} (vb : ShownVb D) (covered : Option DocKey) (dropped : List ℕ) → vb.is_anew ≡ false → vb.recent.items ≡ map.empty
+    → size_among vb.store.spots covered dropped ≡ covered_size vb covered dropped
+all_behind vb covered dropped anew none =
+    all_covered vb.store.spots covered dropped
+    ∙ ap₂ (λ (b : Bool) (m : map.FinMap key_cmp Item). size_among (spots_shown b m vb.store.spots) covered dropped) (sym anew) (sym none)
 
 -- counts of a call of which it isn't said whether the disk failed it
 pub counts_anyhow : (failed : Type 0) (old new : Counts) → CountsStore failed old new → CountsStore ⊥ old new
@@ -261,7 +269,7 @@ module _ {D : Type 0} (states : D → List Device) where
           after = added folds e copy;
           goes = at_once (flat copy.chain) (luck_of Fine copy) request cas e (λ c. (added folds e c, reply c)) copy small later;
           layout = refl;
-          is = inl (lives_entry states old copy e covered dropped c (whole_entry old copy cas e covered dropped l c may can small) l);
+          is = inl (lives_entry states old copy e covered dropped c can (whole_entry old copy cas e covered dropped l c may can small) l);
           cause = λ z. absurd (let f : false ≡ true = z in cc);
           leaves = rests_leaves states old old copy home (inl l) (rests_none states old);
         };
@@ -291,7 +299,7 @@ module _ {D : Type 0} (states : D → List Device) where
               goes = flushed_then (flat copy.chain) p.luck request cas e (λ c. (added folds e c, reply c)) copy (Done after) first done.1
                   ∙ ap (λ (c : Copy Content ℕ). (added folds e c, reply c)) (flush_rests after lives.stands.active lives.none_waits);
               layout = p.layout;
-              is = inl (lives_entry states mid after e covered dropped c (whole_entry mid after cas e covered dropped lives c may can small) lives);
+              is = inl (lives_entry states mid after e covered dropped c can (whole_entry mid after cas e covered dropped lives c may can small) lives);
               cause = p.cause;
               leaves = done.3;
             };

@@ -1,8 +1,8 @@
 -- What a store's write of what was changed of late comes to.
-use Rattle.std.specs.Prelude.{◌≡◌, ◌≤◌, ◌<◌, ℕ, ◌+◌, ◌^◌, Bool, true, false, List, [], ◌∷◌, length, IsTrue, Some, Result, Ok, Err, is_err, OnOk, OnErr, IfErr}
+use Rattle.std.specs.Prelude.{◌≡◌, ◌≤◌, ◌<◌, ℕ, ◌+◌, ◌^◌, Bool, List, [], ◌∷◌, length, IsTrue, Some, Result, Ok, Err, map as list_map, OnOk, IfErr}
 use Rattle.std.specs.FinMap as map
 use Rattle.std.specs.List.{AllByRecursion}
-use Rattle.std.proofs.Common.{◌∙◌, subst}
+use Rattle.std.proofs.Common.{subst, Bor}
 use Rattle.doc_model.specs.declared.document.Item.{Item}
 use Rattle.doc_model.specs.Keys.{key_cmp}
 use Rattle.manifest_rules.specs.Catalog.{Catalog}
@@ -22,10 +22,14 @@ use Rattle.magma_store.specs.Held.{Held, numbers_of}
 use Rattle.magma_store.specs.Layout.{write_size, needed_for, free, LaysWrite}
 use Rattle.magma_store.specs.Store.{Shown, IsOpen, Either, IsBatch, IsUnwritten, written}
 use Rattle.vb_core.specs.Flat.{tail_of}
-use Rattle.vb_core.specs.Noting.{Notes, IsBatchOf, PutsDown}
+use Rattle.vb_core.specs.Noting.{IsBatchOf, PutsDown}
 use Rattle.vb_core.specs.Shown.{AreStorable}
 
 -- ---- the batch
+
+-- the items behind references
+abbrev pub shown : List (Bor Item) → List Item
+shown refs = list_map (λ (i : Bor Item). i.now) refs
 
 -- items that a map has can be kept, where all of its items can
 pub own_storable : (own : map.FinMap key_cmp Item) (items : List Item) → AreStorable own → AllByRecursion (λ (i : Item). map.get own i.key ≡ Some i) items → AllByRecursion IsStorable items
@@ -59,22 +63,6 @@ batch_of recent meta batch ready by stand present few = record {
 
 -- ---- what the store answers
 
-pub none_ok : {T E : Type 0} (r : Result T E) (P : Type 0) → is_err r ≡ true → OnOk r P
-none_ok (Ok x) P e = absurd (cc)
-none_ok (Err x) P e = tt
-
-pub none_err : {T E : Type 0} (r : Result T E) (P : Type 0) → is_err r ≡ false → OnErr r P
-none_err (Ok x) P e = tt
-none_err (Err x) P e = absurd (cc)
-
-pub any_ok : {T E : Type 0} (r : Result T E) (P : Type 0) → P → OnOk r P
-any_ok (Ok x) P p = p
-any_ok (Err x) P p = tt
-
-pub any_err : {T E : Type 0} (r : Result T E) (P : Type 0) → P → OnErr r P
-any_err (Ok x) P p = tt
-any_err (Err x) P p = p
-
 -- what a write ensures of a batch
 pub record Wrote {D : Type 0} (states : D → List Device) (is_anew : Bool) (recent : Content) (meta : Meta) (batch : List Item) (old new : Shown D) (r : Result (Unit {0}) StoreFault) : Type 0 where
   pub any_moment : (held : Held) (manifest : Catalog) → IsOpen states held old → IsBatch manifest batch meta
@@ -90,32 +78,29 @@ moments states is_anew recent meta batch old new r w of held is =
     let m = w.any_moment held recent.manifest is of.is in
     subst (λ l. Throughout (Either held old.layout (written is_anew recent.manifest batch meta held) l) (states old.disk) (states new.disk)) m.1 m.2
 
-pub puts_down : {D : Type 0} (states : D → List Device) (is_anew : Bool) (recent : Content) (meta : Meta) (batch : List Item) (before noted after : map.FinMap key_cmp ℕ) (old new : Shown D) (r : Result (Unit {0}) StoreFault)
-    → Wrote states is_anew recent meta batch old new r → IsBatchOf recent meta batch → Notes before batch noted → OnOk r (after ≡ noted) → OnErr r (after ≡ before) → PutsDown states is_anew recent meta before after old new r
-puts_down states is_anew recent meta batch before noted after old new (Ok u) w of notes ok err = record {
+pub puts_down : {D : Type 0} (states : D → List Device) (is_anew : Bool) (recent : Content) (meta : Meta) (batch : List Item) (old new : Shown D) (r : Result (Unit {0}) StoreFault)
+    → Wrote states is_anew recent meta batch old new r → IsBatchOf recent meta batch → PutsDown states is_anew recent meta old new r
+puts_down states is_anew recent meta batch old new (Ok u) w of = record {
   batch = batch;
   begun = record { of = of; moments = moments states is_anew recent meta batch old new (Ok u) w of };
   done = λ held is. w.done held recent.manifest is of.is;
   layout = w.layout;
   room = w.room;
-  notes = record { is = ok ∙ notes.is; new = notes.new };
 }
-puts_down states is_anew recent meta batch before noted after old new (Err fault.DiskFault) w of notes ok err = record {
+puts_down states is_anew recent meta batch old new (Err fault.DiskFault) w of = record {
   batch = batch;
   begun = record { of = of; moments = moments states is_anew recent meta batch old new (Err fault.DiskFault) w of };
   room = w.refused;
-  unnoted = err;
 }
-puts_down states is_anew recent meta batch before noted after old new (Err (fault.Full asked left)) w of notes ok err = record {
+puts_down states is_anew recent meta batch old new (Err (fault.Full asked left)) w of = record {
   batch = batch;
   of = of;
   same = (w.refused).0;
-  unnoted = err;
   asked_is = (w.refused).1;
   left_is = (w.refused).2;
   full = (w.refused).3;
 }
-puts_down states is_anew recent meta batch before noted after old new (Err (fault.Damaged place found expected)) w of notes ok err = w.refused
-puts_down states is_anew recent meta batch before noted after old new (Err (fault.Spent found)) w of notes ok err = w.refused
-puts_down states is_anew recent meta batch before noted after old new (Err fault.OtherChain) w of notes ok err = w.refused
-puts_down states is_anew recent meta batch before noted after old new (Err fault.NoMemory) w of notes ok err = (w.refused, err)
+puts_down states is_anew recent meta batch old new (Err (fault.Damaged place found expected)) w of = w.refused
+puts_down states is_anew recent meta batch old new (Err (fault.Spent found)) w of = w.refused
+puts_down states is_anew recent meta batch old new (Err fault.OtherChain) w of = w.refused
+puts_down states is_anew recent meta batch old new (Err fault.NoMemory) w of = w.refused

@@ -1,6 +1,7 @@
 -- The entry of a change of a key that isn't refused early may be added.
 use Rattle.std.specs.Prelude.{◌≡◌, ◌≤◌, ◌∷◌, ◌&&◌, ℕ, is_none, nat_eq, Bool, true, false, [], None, refl}
 use Rattle.std.proofs.Common.{arith}
+use Rattle.std.proofs.lemmas.Bool.{and_parts}
 use Rattle.doc_model.specs.declared.key.DocKey.{DocKey}
 use Rattle.doc_model.specs.declared.document.What.{What}
 use Rattle.doc_model.specs.declared.document.What.TheVariants as whats
@@ -47,3 +48,8 @@ free_allowed content key (whats.Remove cas) e = e
 pub entered_added : {D : Type 0} (vb : ShownVb D) (request : Request) (key : DocKey) (what : What) → early_refusal vb request key ≡ None
     → allowed vb.recent (plain_entry key what) ≡ true
 entered_added vb request key what e = free_allowed vb.recent key what (its_free vb request key e)
+
+-- and its collection is there
+pub entered_there : {D : Type 0} (vb : ShownVb D) (request : Request) (key : DocKey) → early_refusal vb request key ≡ None
+    → has_collection vb.recent.manifest key.collection ≡ true
+entered_there vb request key e = (and_parts (is_none (prepare_of vb.recent.prepares key)) _ (its_free vb request key e)).1

@@ -84,7 +84,7 @@ abbrev full : Copy Content ℕ → ℕ → ℕ → Copy Content ℕ × Result �
 full copy asked left = (copy, Err (faults.Full asked left))
 
 fares : {D : Type 0} (states : D → List Device) (copy : Copy Content ℕ) (old new : ShownVb D) (luck : Luck ℕ) (r : Result (Unit {0}) StoreFault) (put : Put (Copy Content ℕ)) → Lives states old copy
-    → IsFit old.store.meta old.core old.recent old.flushed old.seen → write_log folds (flat copy.chain) luck copy.accepted copy ≡ put → IsPut states copy old new put r → (r ≡ Err fault.NoMemory → ⊥)
+    → IsFit old.store.meta old.core old.recent old.seen → write_log folds (flat copy.chain) luck copy.accepted copy ≡ put → IsPut states copy old new put r → (r ≡ Err fault.NoMemory → ⊥)
     → Fares states copy old new put (noting.put_told new.core.length r)
 fares states copy old new luck (Ok u) (Done after) l fit e is memory =
     let done = done_is copy after luck copy.accepted e in
@@ -140,7 +140,7 @@ fares states copy old new luck (Err fault.OtherChain) put l fit e is memory = ab
 
 -- a flush that put its log on disk, or couldn't
 pub flush_comes : {D : Type 0} (states : D → List Device) (counts : D → Counts) (copy : Copy Content ℕ) (old new : ShownVb D) (r : Result (Unit {0}) StoreFault) → Lives states old copy
-    → IsFit old.store.meta old.core old.recent old.flushed old.seen → (r ≡ Err fault.NoMemory → Rests states old new) → Puts states counts copy old new r
+    → IsFit old.store.meta old.core old.recent old.seen → (r ≡ Err fault.NoMemory → Rests states old new) → Puts states counts copy old new r
     → Comes states counts copy (λ luck. flushes folds (flat copy.chain) luck copy) old new (noting.put_told new.core.length r)
 flush_comes {D} states counts copy old new r l fit rests p = go r refl
   where
@@ -179,7 +179,7 @@ flush_comes {D} states counts copy old new r l fit rests p = go r refl
         subst (λ (told : Result ℕ VbFault). Comes states counts copy (λ luck. flushes folds (flat copy.chain) luck copy) old new told) (sym (ap (noting.put_told new.core.length) e)) (lacking e)
 
 -- the flush of a dead copy, or of one whose disk failed
-pub dead_comes : {D : Type 0} (states : D → List Device) (counts : D → Counts) (copy : Copy Content ℕ) (vb : ShownVb D) → IsCopy states vb copy → copy.role ≡ roles.Dead → IsFit vb.store.meta vb.core vb.recent vb.flushed vb.seen
+pub dead_comes : {D : Type 0} (states : D → List Device) (counts : D → Counts) (copy : Copy Content ℕ) (vb : ShownVb D) → IsCopy states vb copy → copy.role ≡ roles.Dead → IsFit vb.store.meta vb.core vb.recent vb.seen
     → Comes states counts copy (λ luck. flushes folds (flat copy.chain) luck copy) vb vb (Err faults.Dead)
 dead_comes states counts copy vb is dead fit = record {
   luck = record { chance = Fine; layout = next_layout copy };

@@ -4,7 +4,6 @@ pub mod Resting
 pub mod Batching
 pub mod PutDown
 pub mod Flushing
-pub mod Steps
 pub mod Downs
 pub mod Putdowns
 pub mod Tails
@@ -12,7 +11,7 @@ pub mod Fresh
 pub mod Begins
 pub mod Firsts
 pub mod Opens
-pub mod Noted
+pub mod Counted
 pub mod Covering
 pub mod Lasting
 pub mod Changed

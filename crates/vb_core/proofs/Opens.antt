@@ -1,6 +1,6 @@
 -- What opening a vbucket comes to.
 use Rattle.std.specs.Prelude.{◌≡◌, ◌⊎◌, ℕ, ◌+◌, Bool, true, false, List, [], ◌∷◌, Option, Some, None, Result, Ok, Err, IfOk, IfErr, IfSome, refl}
-use Rattle.std.proofs.Common.{sym, ◌∙◌, ap, subst, inl, inr}
+use Rattle.std.proofs.Common.{sym, ◌∙◌, ap, ap₂, subst, inl, inr}
 use Rattle.durability_core.specs.declared.chain.Chain.{Chain}
 use Rattle.manifest_rules.specs.Catalog.{Catalog}
 use Rattle.manifest_rules.specs.Rules.{first_catalog}
@@ -14,6 +14,7 @@ use Rattle.magma_store.specs.Held.{Held, first_held}
 use Rattle.magma_store.specs.Layout.{made_size, sets_size}
 use Rattle.magma_store.specs.Store as stores
 use Rattle.magma_store.specs.Store.{Shown, IsOpen, IsOwn, IsMade, IsRaised, Opens, LeavesOpening}
+use Rattle.magma_store.specs.Whole.{content_of}
 use Rattle.vb_log.specs.declared.entry.Pending.{Pending}
 use Rattle.vb_log.specs.Content.{Content, no_content}
 use Rattle.vb_log.specs.Contents.{IsWhole}
@@ -36,9 +37,6 @@ pub record Finds {D : Type 0} (states : D → List Device) (bytes : List ℕ) (c
   pub copy : Copy Content ℕ
   pub begins : BeginsOn bytes chain place number copy
   pub on_store : BeginsIn states store number content is_anew copy
-
-same_content : (c d : Content) → c.items ≡ d.items → c.prepares ≡ d.prepares → c.manifest ≡ d.manifest → c.greatest_cas ≡ d.greatest_cas → c.length ≡ d.length → c ≡ d
-same_content c d a b m g l = λ i. record { items = a i; prepares = b i; manifest = m i; greatest_cas = g i; length = l i }
 
 -- what a tail tells of a log that was found
 found_tells : (held : Held) (content : Content) → IsFound held content → Tells held.meta.tail content.manifest content.prepares
@@ -73,7 +71,7 @@ nothing_found : (chain : Chain) (place : ℕ) (content : Content) → IsFound (f
 nothing_found chain place content f = go f.told
   where
     go : ((let nothing : List ℕ = [] in nothing ≡ []) × (content.manifest ≡ first_catalog) × (content.prepares ≡ [])) ⊎ IsTail [] content.manifest content.prepares → content ≡ no_content
-    go (inl t) = same_content content no_content f.items_are t.2 t.1 f.cas_is f.length_is
+    go (inl t) = f.is ∙ ap₂ (λ (m : Catalog) (ps : List Pending). content_of (first_held chain place) m ps) t.1 t.2
     go (inr t) = absurd (empty_tail content.manifest content.prepares t)
 
 finds_made : {D : Type 0} (states : D → List Device) (bytes : List ℕ) (chain : Chain) (place number : ℕ) (store : Shown D) (content : Content) (is_anew : Bool) → IsMade states bytes chain place store → IsOwn chain place store.meta
@@ -134,7 +132,8 @@ is_pair_with held layout log items tells cas long = record {
 }
 
 found_pair : (held : Held) (layout : ℕ) (content : Content) → IsFound (stores.raised held) content → IsPair held layout (pair_with held layout content)
-found_pair held layout content f = is_pair_with held layout content f.items_are (found_tells (stores.raised held) content f) f.cas_is f.length_is
+found_pair held layout content f = is_pair_with held layout content (ap (λ (c : Content). c.items) f.is) (found_tells (stores.raised held) content f)
+    (ap (λ (c : Content). c.greatest_cas) f.is) (ap (λ (c : Content). c.length) f.is)
 
 -- the log of a pair that isn't sound
 abbrev broken_log : Held → Catalog → List Pending → Content

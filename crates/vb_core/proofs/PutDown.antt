@@ -21,9 +21,12 @@ use Rattle.magma_store.specs.declared.meta.Meta.{Meta}
 use Rattle.magma_store.specs.Held.{Held, IsStore, with_items}
 use Rattle.magma_store.specs.Layout as layouts
 use Rattle.magma_store.specs.Layout.{write_size, needed_for}
-use Rattle.magma_store.specs.Store.{Shown, Either, written}
+use Rattle.magma_store.specs.Spots.{spots_size}
+use Rattle.magma_store.specs.Store.{Shown, IsOpen, Either, written}
+use Rattle.magma_store.proofs.Weights.{opened_size}
 use Rattle.vb_log.specs.declared.entry.Pending.{Pending}
 use Rattle.vb_log.specs.Content.{Content, has_collection}
+use Rattle.vb_log.specs.Held.{items_size}
 use Rattle.vb_log.specs.Logs.{folds}
 use Rattle.vb_log.specs.Prepares.{IsAllowedPending}
 use Rattle.copy_model.specs.Copies.{Copy, Pair, Luck, Fine, DiskFails, fails_disk}
@@ -47,7 +50,7 @@ next_pair copy = pair_at copy.accepted (next_layout copy) copy
 -- an active copy's log is to be put on disk, as this batch
 pub record IsPutting {D : Type 0} (states : D → List Device) (vb : ShownVb D) (copy : Copy Content ℕ) (meta : Meta) (batch : List Item) : Type 0 where
   pub stands : Stands states vb copy
-  pub fit : IsFit vb.store.meta vb.core vb.recent vb.flushed vb.seen
+  pub fit : IsFit vb.store.meta vb.core vb.recent vb.seen
   pub meta_is : IsMetaOf vb.core vb.recent meta
   pub of : IsBatchOf vb.recent meta batch
 
@@ -63,7 +66,7 @@ written_size states vb copy meta batch p =
     let s = p.stands in
     let n : ℕ = s.held.meta.length in
     size_is vb.is_anew n vb.recent copy.log batch meta.tail p.of.by (tail_is states vb copy meta batch p)
-    (items_are vb.is_anew n vb.recent copy.log vb.flushed s.held.items s.shows s.on_disk s.recently)
+    (items_are vb.is_anew n vb.recent copy.log vb.showing s.held.items s.shows s.on_disk s.recently)
     ∙ ap₂ (λ b k. size_of_write b k copy.log) s.anew (sym s.pair.length_is)
 
 new_layout : {D : Type 0} (states : D → List Device) (vb : ShownVb D) (copy : Copy Content ℕ) (meta : Meta) (batch : List Item) → IsPutting states vb copy meta batch → vb.store.layout + write_size meta.tail batch ≡ next_layout copy
@@ -76,7 +79,7 @@ new_held vb meta batch held = written vb.is_anew vb.recent.manifest batch meta h
 whole_items : {D : Type 0} (states : D → List Device) (vb : ShownVb D) (copy : Copy Content ℕ) (meta : Meta) (batch : List Item) (p : IsPutting states vb copy meta batch) → copy.log.items ≡ (new_held vb meta batch p.stands.held).items
 whole_items states vb copy meta batch p =
     let s = p.stands in
-    log_is vb.is_anew vb.recent copy.log vb.flushed s.held.items batch s.shows p.of.stand p.of.by
+    log_is vb.is_anew vb.recent copy.log vb.showing s.held.items batch s.shows p.of.stand p.of.by
     ∙ ap (λ (m : Catalog). with_items (beneath vb.is_anew m s.held.items) batch) (sym (manifest_is states vb copy s))
 
 -- the manifest of the log, and what waits, stand beside the items
@@ -165,11 +168,11 @@ with_none copy luck term below =
 -- ---- done
 
 -- a vbucket once its log is on disk
-abbrev pub put_done : {D : Type 0} → ShownVb D → Shown D → map.FinMap key_cmp ℕ → ShownVb D
-put_done vb store flushed = record vb {
+abbrev pub put_done : {D : Type 0} → ShownVb D → Shown D → ShownVb D
+put_done vb store = record vb {
   store = store;
   recent = record vb.recent { items = map.empty };
-  flushed = flushed;
+  showing = spots_size store.spots;
   is_anew = false;
   unflushed_entries = 0;
   unflushed_bytes = 0;
@@ -181,27 +184,29 @@ up_to_all n m o same up key item at = up key item (ap (λ (x : map.FinMap key_cm
 none_at : (n : ℕ) (key : DocKey) (item : Item) → map.get (map.empty {X = Item} {R = key_cmp}) key ≡ Some item → n < item.seqno
 none_at n key item at = let none : map.get (map.empty {X = Item} {R = key_cmp}) key ≡ None = map.get-empty key_cmp key in absurd (cc)
 
-pub done_stands : {D : Type 0} (states : D → List Device) (vb : ShownVb D) (copy : Copy Content ℕ) (meta : Meta) (store : Shown D) (flushed : map.FinMap key_cmp ℕ) (d : IsPutDown states vb.is_anew vb.recent meta vb.flushed flushed vb.store store)
-    → IsPutting states vb copy meta d.batch → Stands states (put_done vb store flushed) (on_disk (next_pair copy) copy)
-done_stands states vb copy meta store flushed d p =
+pub done_stands : {D : Type 0} (states : D → List Device) (vb : ShownVb D) (copy : Copy Content ℕ) (meta : Meta) (store : Shown D) (d : IsPutDown states vb.is_anew vb.recent meta vb.store store)
+    → IsPutting states vb copy meta d.batch → Stands states (put_done vb store) (on_disk (next_pair copy) copy)
+done_stands states vb copy meta store d p =
     let s = p.stands in
     let items : copy.log.items ≡ (new_held vb meta d.batch s.held).items = whole_items states vb copy meta d.batch p in
     let length_is : meta.length ≡ copy.log.length = p.meta_is.length_is ∙ ap (λ (c : Content). c.length) s.shows.others in
     let manifest : vb.recent.manifest ≡ copy.log.manifest = manifest_is states vb copy s in
+    let is_open : IsOpen states (new_held vb meta d.batch s.held) store = d.done s.held s.is_open in
     record {
       active = s.active;
       numbers = record { core = s.numbers.core; number = s.numbers.number; seen = s.numbers.seen };
       held = new_held vb meta d.batch s.held;
-      is_open = d.done s.held s.is_open;
+      is_open = is_open;
       pair = subst (λ l. IsPair (new_held vb meta d.batch s.held) l (next_pair copy)) (sym (d.layout ∙ new_layout states vb copy meta d.batch p)) (new_pair states vb copy meta d.batch p);
       torn = s.torn;
       whole = s.whole;
       told = λ _. new_tail states vb copy meta d.batch p;
       shows =
-          subst (λ (m : map.FinMap key_cmp Item). Shows (record vb.recent { items = map.empty }) flushed (beneath false copy.log.manifest m) copy.log) items
-          (shows_after vb.is_anew vb.recent copy.log vb.flushed flushed s.held.items d.batch s.shows p.of.stand p.of.by
+          subst (λ (m : map.FinMap key_cmp Item). Shows (record vb.recent { items = map.empty }) (spots_size store.spots) (beneath false copy.log.manifest m) copy.log) items
+          (shows_after vb.is_anew vb.recent copy.log vb.showing (spots_size store.spots) s.held.items d.batch s.shows p.of.stand p.of.by
           (subst (λ (c : Catalog). IsTrue (is_kept c)) manifest p.of.is.kept)
-          (subst (λ (c : Catalog). AllByRecursion (λ (i : Item). IsTrue (has_collection c i.key.collection)) d.batch) manifest p.of.is.present) d.notes.is);
+          (subst (λ (c : Catalog). AllByRecursion (λ (i : Item). IsTrue (has_collection c i.key.collection)) d.batch) manifest p.of.is.present)
+          (opened_size store.spots (new_held vb meta d.batch s.held).items store.layout (states store.disk) is_open.spots ∙ ap items_size (sym items)));
       made = s.made;
       on_disk = λ e. up_to_all meta.length copy.log.items (new_held vb meta d.batch s.held).items items (subst (λ n. MadeUpTo n copy.log.items) (sym length_is) s.made);
       longer = λ e. subst (λ n. n ≤ copy.log.length) (sym length_is) (le_refl copy.log.length);
@@ -213,18 +218,18 @@ done_stands states vb copy meta store flushed d p =
     }
 
 -- the log was put on disk
-pub puts_done : {D : Type 0} (states : D → List Device) (counts : D → Counts) (vb : ShownVb D) (copy : Copy Content ℕ) (meta : Meta) (store : Shown D) (flushed : map.FinMap key_cmp ℕ)
-    → IsPutDown states vb.is_anew vb.recent meta vb.flushed flushed vb.store store → Stands states vb copy → IsFit vb.store.meta vb.core vb.recent vb.flushed vb.seen → IsMetaOf vb.core vb.recent meta
-    → Puts states counts copy vb (put_done vb store flushed) (Ok tt)
-puts_done states counts vb copy meta store flushed d s fit m =
+pub puts_done : {D : Type 0} (states : D → List Device) (counts : D → Counts) (vb : ShownVb D) (copy : Copy Content ℕ) (meta : Meta) (store : Shown D)
+    → IsPutDown states vb.is_anew vb.recent meta vb.store store → Stands states vb copy → IsFit vb.store.meta vb.core vb.recent vb.seen → IsMetaOf vb.core vb.recent meta
+    → Puts states counts copy vb (put_done vb store) (Ok tt)
+puts_done states counts vb copy meta store d s fit m =
     let p : IsPutting states vb copy meta d.batch = record { stands = s; fit = fit; meta_is = m; of = d.begun.of } in
     let luck : Luck ℕ = record { chance = Fine; layout = next_layout copy } in
     let room : needed folds (flat copy.chain) copy ≤ free (flat copy.chain) copy = subst₂ (λ a b. a ≤ b) (needed_is states vb copy meta d.batch p) (free_is states vb copy s) d.room in
     record {
       luck = luck;
       goes =
-          subst (λ (w : Put (Copy Content ℕ)). IsPut states copy vb (put_done vb store flushed) w (Ok tt)) (sym (with_room copy luck copy.accepted room))
-          (done_stands states vb copy meta store flushed d p, put_leaves states vb (put_done vb store flushed) copy (on_disk (next_pair copy) copy) meta d.batch p d.begun (λ image h. (next_pair copy, inl refl, h)));
+          subst (λ (w : Put (Copy Content ℕ)). IsPut states copy vb (put_done vb store) w (Ok tt)) (sym (with_room copy luck copy.accepted room))
+          (done_stands states vb copy meta store d p, put_leaves states vb (put_done vb store) copy (on_disk (next_pair copy) copy) meta d.batch p d.begun (λ image h. (next_pair copy, inl refl, h)));
       layout = refl;
       sufficed = refl;
       cause = λ faulted. absurd (cc);
@@ -232,10 +237,10 @@ puts_done states counts vb copy meta store flushed d s fit m =
 
 -- ---- no room, and no memory
 
-pub puts_full : {D : Type 0} (states : D → List Device) (counts : D → Counts) (vb new : ShownVb D) (copy : Copy Content ℕ) (meta : Meta) (store : Shown D) (flushed : map.FinMap key_cmp ℕ) (asked left : ℕ)
-    → HasNoRoom vb.recent meta vb.flushed flushed vb.store store asked left → Stands states vb copy → IsFit vb.store.meta vb.core vb.recent vb.flushed vb.seen → IsMetaOf vb.core vb.recent meta → Rests states vb new
+pub puts_full : {D : Type 0} (states : D → List Device) (counts : D → Counts) (vb new : ShownVb D) (copy : Copy Content ℕ) (meta : Meta) (store : Shown D) (asked left : ℕ)
+    → HasNoRoom vb.recent meta vb.store store asked left → Stands states vb copy → IsFit vb.store.meta vb.core vb.recent vb.seen → IsMetaOf vb.core vb.recent meta → Rests states vb new
     → Puts states counts copy vb new (Err (fault.Full asked left))
-puts_full states counts vb new copy meta store flushed asked left h s fit m rests =
+puts_full states counts vb new copy meta store asked left h s fit m rests =
     let p : IsPutting states vb copy meta h.batch = record { stands = s; fit = fit; meta_is = m; of = h.of } in
     let luck : Luck ℕ = record { chance = Fine; layout = next_layout copy } in
     let needs = needed_is states vb copy meta h.batch p in
@@ -263,12 +268,12 @@ puts_nothing states counts vb new copy rests = record {
 -- ---- the disk failed
 
 -- a vbucket whose disk failed
-abbrev pub put_stopped : {D : Type 0} → ShownVb D → Shown D → map.FinMap key_cmp ℕ → ShownVb D
-put_stopped vb store flushed = record vb { store = store; flushed = flushed; core = record vb.core { role = roles.Dead } }
+abbrev pub put_stopped : {D : Type 0} → ShownVb D → Shown D → ShownVb D
+put_stopped vb store = record vb { store = store; core = record vb.core { role = roles.Dead } }
 
-stopped_with : {D : Type 0} (states : D → List Device) (vb : ShownVb D) (copy : Copy Content ℕ) (torn : Option (Pair Content ℕ)) (store : Shown D) (flushed : map.FinMap key_cmp ℕ) → Stands states vb copy
-    → ((image : List ℕ) → MayLeave (states store.disk) image → HoldsOf (dead_with torn copy) image) → Stopped states (put_stopped vb store flushed) (dead_with torn copy)
-stopped_with states vb copy torn store flushed s leaves = record {
+stopped_with : {D : Type 0} (states : D → List Device) (vb : ShownVb D) (copy : Copy Content ℕ) (torn : Option (Pair Content ℕ)) (store : Shown D) → Stands states vb copy
+    → ((image : List ℕ) → MayLeave (states store.disk) image → HoldsOf (dead_with torn copy) image) → Stopped states (put_stopped vb store) (dead_with torn copy)
+stopped_with states vb copy torn store s leaves = record {
   dead = refl;
   numbers = record { core = ap (λ (c : CopyCore). record c { role = roles.Dead }) s.numbers.core; number = s.numbers.number; seen = s.numbers.seen };
   leaves = leaves;
@@ -282,10 +287,10 @@ holds_dead states vb copy torn image s (d, may, h) = (d, go may, h)
     go (inl e) = inl e
     go (inr e) = let none = s.torn in absurd (cc)
 
-pub puts_stopped : {D : Type 0} (states : D → List Device) (counts : D → Counts) (vb : ShownVb D) (copy : Copy Content ℕ) (meta : Meta) (store : Shown D) (flushed : map.FinMap key_cmp ℕ)
-    → IsStopped states vb.is_anew vb.recent meta vb.flushed flushed vb.store store → Stands states vb copy → IsFit vb.store.meta vb.core vb.recent vb.flushed vb.seen → IsMetaOf vb.core vb.recent meta
-    → Rose (counts vb.store.disk).faults (counts store.disk).faults → Puts states counts copy vb (put_stopped vb store flushed) (Err fault.DiskFault)
-puts_stopped {D} states counts vb copy meta store flushed h s fit m rose = record {
+pub puts_stopped : {D : Type 0} (states : D → List Device) (counts : D → Counts) (vb : ShownVb D) (copy : Copy Content ℕ) (meta : Meta) (store : Shown D)
+    → IsStopped states vb.is_anew vb.recent meta vb.store store → Stands states vb copy → IsFit vb.store.meta vb.core vb.recent vb.seen → IsMetaOf vb.core vb.recent meta
+    → Rose (counts vb.store.disk).faults (counts store.disk).faults → Puts states counts copy vb (put_stopped vb store) (Err fault.DiskFault)
+puts_stopped {D} states counts vb copy meta store h s fit m rose = record {
   luck = record { chance = DiskFails; layout = next_layout copy };
   goes = fares (nat_lt (free (flat copy.chain) copy) (needed folds (flat copy.chain) copy)) refl;
   layout = refl;
@@ -300,24 +305,24 @@ puts_stopped {D} states counts vb copy meta store flushed h s fit m rose = recor
     own = own_of states vb copy fit s
 
     -- the write was begun
-    moments : Leaves states copy (dead_with (Some (next_pair copy)) copy) vb (put_stopped vb store flushed)
-    moments = put_leaves states vb (put_stopped vb store flushed) copy (dead_with (Some (next_pair copy)) copy) meta h.batch putting h.begun (λ image held. (next_pair copy, inr refl, held))
+    moments : Leaves states copy (dead_with (Some (next_pair copy)) copy) vb (put_stopped vb store)
+    moments = put_leaves states vb (put_stopped vb store) copy (dead_with (Some (next_pair copy)) copy) meta h.batch putting h.begun (λ image held. (next_pair copy, inr refl, held))
 
     merged : (image : List ℕ) → HoldsOf copy image ⊎ HoldsOf (dead_with (Some (next_pair copy)) copy) image → HoldsOf (dead_with (Some (next_pair copy)) copy) image
     merged image (inl old) = holds_dead states vb copy (Some (next_pair copy)) image s old
     merged image (inr now) = now
 
-    begun : Stopped states (put_stopped vb store flushed) (dead_with (Some (next_pair copy)) copy) × Leaves states copy (dead_with (Some (next_pair copy)) copy) vb (put_stopped vb store flushed)
+    begun : Stopped states (put_stopped vb store) (dead_with (Some (next_pair copy)) copy) × Leaves states copy (dead_with (Some (next_pair copy)) copy) vb (put_stopped vb store)
     begun = (
-      stopped_with states vb copy (Some (next_pair copy)) store flushed s
+      stopped_with states vb copy (Some (next_pair copy)) store s
           (λ image left. merged image (left_at_last (λ i. HoldsOf copy i ⊎ HoldsOf (dead_with (Some (next_pair copy)) copy) i) (states vb.store.disk) (states store.disk) image moments left)),
       moments,
     )
 
     -- the disk failed before anything was written
-    idle : states store.disk ≡ states vb.store.disk → Stopped states (put_stopped vb store flushed) (dead_with None copy) × Leaves states copy (dead_with None copy) vb (put_stopped vb store flushed)
+    idle : states store.disk ≡ states vb.store.disk → Stopped states (put_stopped vb store) (dead_with None copy) × Leaves states copy (dead_with None copy) vb (put_stopped vb store)
     idle same = (
-      stopped_with states vb copy None store flushed s
+      stopped_with states vb copy None store s
           (λ image left. holds_dead states vb copy None image s (stands_leaves states vb copy s own image (subst (λ l. MayLeave l image) same left))),
       stays_put (λ image. HoldsOf copy image ⊎ HoldsOf (dead_with None copy) image) (states vb.store.disk) (states store.disk) same (λ image left. inl (stands_leaves states vb copy s own image left)),
     )
@@ -332,6 +337,6 @@ puts_stopped {D} states counts vb copy meta store flushed h s fit m rose = recor
     unwritten full (inr same) = same
 
     fares : (b : Bool) → nat_lt (free (flat copy.chain) copy) (needed folds (flat copy.chain) copy) ≡ b
-        → IsPut states copy vb (put_stopped vb store flushed) (cond b (Failed (dead_with None copy)) (Failed (dead_with (Some (next_pair copy)) copy))) (Err fault.DiskFault)
+        → IsPut states copy vb (put_stopped vb store) (cond b (Failed (dead_with None copy)) (Failed (dead_with (Some (next_pair copy)) copy))) (Err fault.DiskFault)
     fares true full = idle (unwritten full h.room)
     fares false room = begun

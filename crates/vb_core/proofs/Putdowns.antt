@@ -1,9 +1,8 @@
 -- What putting down what was changed of late makes of a vbucket.
-use Rattle.std.specs.Prelude.{◌≡◌, ℕ, is_some, true, List, None, Result, Ok, Err, IsErrAnd, IsErrOf, refl}
+use Rattle.std.specs.Prelude.{◌≡◌, ℕ, List, None, Result, Ok, Err, IsErrAnd, IsErrOf, refl}
 use Rattle.std.specs.FinMap as map
-use Rattle.std.proofs.Common.{sym, ◌∙◌, ap, ap₂, subst}
+use Rattle.std.proofs.Common.{sym, ◌∙◌, ap, subst}
 use Rattle.doc_model.specs.declared.document.Item.{Item}
-use Rattle.doc_model.specs.declared.key.DocKey.{DocKey}
 use Rattle.doc_model.specs.Keys.{key_cmp}
 use Rattle.replica_core.specs.declared.copy.CopyCore.{CopyCore}
 use Rattle.magma_disk.specs.Counting.{Counts}
@@ -32,12 +31,10 @@ puts_refused states counts vb copy (Ok u) h = absurd h
 puts_refused states counts vb copy (Err why) h =
     subst (λ (f : StoreFault). Puts states counts copy vb vb (Err f)) (sym h) (puts_nothing states counts vb vb copy (rests_whole states vb))
 
--- the store and what is noted are as they were
-rests_back : {D : Type 0} (states : D → List Device) (vb : ShownVb D) (store : Shown D) (flushed : map.FinMap key_cmp ℕ) → store ≡ vb.store → flushed ≡ vb.flushed → Rests states vb (record vb { store = store; flushed = flushed })
-rests_back {D} states vb store flushed same unnoted = record {
-  all_else =
-      ap₂ (λ (s : Shown D) (f : map.FinMap key_cmp ℕ). record vb { store = s; flushed = f }) same unnoted
-      ∙ sym (ap (λ (s : Shown D). record vb { store = record vb.store { disk = s.disk } }) same);
+-- the store is as it was
+rests_back : {D : Type 0} (states : D → List Device) (vb : ShownVb D) (store : Shown D) → store ≡ vb.store → Rests states vb (record vb { store = store })
+rests_back {D} states vb store same = record {
+  all_else = ap (λ (s : Shown D). record vb { store = s }) same ∙ sym (ap (λ (s : Shown D). record vb { store = record vb.store { disk = s.disk } }) same);
   same = ap (λ (s : Shown D). states s.disk) same;
 }
 
@@ -45,29 +42,26 @@ abbrev failed : StoreFault → Result (Unit {0}) StoreFault
 failed why = Err why
 
 -- nothing was put down
-pub puts_failed : {D : Type 0} (states : D → List Device) (counts : D → Counts) (vb : ShownVb D) (copy : Copy Content ℕ) (meta : Meta) (store : Shown D) (flushed : map.FinMap key_cmp ℕ) (why : StoreFault)
-    → PutsDown states vb.is_anew vb.recent meta vb.flushed flushed vb.store store (Err why) → Stands states vb copy → IsFit vb.store.meta vb.core vb.recent vb.flushed vb.seen → IsMetaOf vb.core vb.recent meta
+pub puts_failed : {D : Type 0} (states : D → List Device) (counts : D → Counts) (vb : ShownVb D) (copy : Copy Content ℕ) (meta : Meta) (store : Shown D) (why : StoreFault)
+    → PutsDown states vb.is_anew vb.recent meta vb.store store (Err why) → Stands states vb copy → IsFit vb.store.meta vb.core vb.recent vb.seen → IsMetaOf vb.core vb.recent meta
     → CountsStore (IsErrOf (failed why) fault.DiskFault) (counts vb.store.disk) (counts store.disk)
-    → Puts states counts copy vb (stopped_at why (record vb { store = store; flushed = flushed })) (Err why)
-puts_failed states counts vb copy meta store flushed fault.DiskFault h s fit m counted = puts_stopped states counts vb copy meta store flushed h s fit m (counted.cause refl)
-puts_failed states counts vb copy meta store flushed (fault.Full asked left) h s fit m counted =
-    puts_full states counts vb (record vb { store = store; flushed = flushed }) copy meta store flushed asked left h s fit m (rests_back states vb store flushed h.same h.unnoted)
-puts_failed states counts vb copy meta store flushed (fault.Damaged place found expected) h s fit m counted = absurd h
-puts_failed states counts vb copy meta store flushed (fault.Spent found) h s fit m counted = absurd h
-puts_failed states counts vb copy meta store flushed fault.OtherChain h s fit m counted = absurd h
-puts_failed states counts vb copy meta store flushed fault.NoMemory h s fit m counted =
-    puts_nothing states counts vb (record vb { store = store; flushed = flushed }) copy (rests_back states vb store flushed h.0 h.1)
+    → Puts states counts copy vb (stopped_at why (record vb { store = store })) (Err why)
+puts_failed states counts vb copy meta store fault.DiskFault h s fit m counted = puts_stopped states counts vb copy meta store h s fit m (counted.cause refl)
+puts_failed states counts vb copy meta store (fault.Full asked left) h s fit m counted =
+    puts_full states counts vb (record vb { store = store }) copy meta store asked left h s fit m (rests_back states vb store h.same)
+puts_failed states counts vb copy meta store (fault.Damaged place found expected) h s fit m counted = absurd h
+puts_failed states counts vb copy meta store (fault.Spent found) h s fit m counted = absurd h
+puts_failed states counts vb copy meta store fault.OtherChain h s fit m counted = absurd h
+puts_failed states counts vb copy meta store fault.NoMemory h s fit m counted =
+    puts_nothing states counts vb (record vb { store = store }) copy (rests_back states vb store h)
 
 -- ---- what holds of a vbucket
 
-none_there : (key : DocKey) (X : Type 0) → is_some (map.get (map.empty {X = Item} {R = key_cmp}) key) ≡ true → X
-none_there key X e = let none : map.get (map.empty {X = Item} {R = key_cmp}) key ≡ None = map.get-empty key_cmp key in absurd (cc)
-
--- without items in memory, and whatever is noted
-pub fit_emptied : (meta new : Meta) (core : CopyCore) (recent left : Content) (flushed after : map.FinMap key_cmp ℕ) (seen : ℕ) → IsFit meta core recent flushed seen → (new.chain ≡ meta.chain) × (new.place ≡ meta.place)
-    → left ≡ record recent { items = map.empty } → IsFit new core left after seen
-fit_emptied meta new core recent left flushed after seen fit own is =
-    subst (λ (c : Content). IsFit new core c after seen) (sym is)
+-- without items in memory
+pub fit_emptied : (meta new : Meta) (core : CopyCore) (recent left : Content) (seen : ℕ) → IsFit meta core recent seen → (new.chain ≡ meta.chain) × (new.place ≡ meta.place)
+    → left ≡ record recent { items = map.empty } → IsFit new core left seen
+fit_emptied meta new core recent left seen fit own is =
+    subst (λ (c : Content). IsFit new core c seen) (sym is)
     record {
       chain = fit.chain ∙ sym own.0;
       place = fit.place ∙ sym own.1;
@@ -76,6 +70,5 @@ fit_emptied meta new core recent left flushed after seen fit own is =
       length = fit.length;
       items = λ key item at. let none : map.get (map.empty {X = Item} {R = key_cmp}) key ≡ None = map.get-empty key_cmp key in absurd (cc);
       waiting = fit.waiting;
-      apart = λ key there. none_there key (map.get after key ≡ None) there;
       moment = fit.moment;
     }

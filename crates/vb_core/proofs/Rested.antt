@@ -22,7 +22,7 @@ use Rattle.vb_core.specs.Shown.{ShownVb, IsFit}
 
 -- a vbucket that is fit is at home
 pub home_of : {D : Type 0} (inside vb : ShownVb D) → inside ≡ vb
-    → IsFit inside.store.meta inside.core inside.recent inside.flushed inside.seen → IsAtHome vb
+    → IsFit inside.store.meta inside.core inside.recent inside.seen → IsAtHome vb
 home_of {D = D} inside vb is fit = subst (λ (v : ShownVb D). IsAtHome v) is (record { chain = fit.chain; place = fit.place })
 
 -- luck with which nothing is written

@@ -97,7 +97,7 @@ pub record IsOwnOf (meta : Meta) (copy : Copy Content ℕ) : Type 0 where
   pub chain : meta.chain ≡ copy.chain
   pub place : meta.place ≡ copy.place
 
-pub own_of : {D : Type 0} (states : D → List Device) (vb : ShownVb D) (copy : Copy Content ℕ) → IsFit vb.store.meta vb.core vb.recent vb.flushed vb.seen → Stands states vb copy → IsOwnOf vb.store.meta copy
+pub own_of : {D : Type 0} (states : D → List Device) (vb : ShownVb D) (copy : Copy Content ℕ) → IsFit vb.store.meta vb.core vb.recent vb.seen → Stands states vb copy → IsOwnOf vb.store.meta copy
 own_of states vb copy fit s = record {
   chain = sym fit.chain ∙ ap (λ (c : CopyCore). c.chain) s.numbers.core;
   place = sym fit.place ∙ ap (λ (c : CopyCore). c.place) s.numbers.core;
@@ -123,7 +123,7 @@ pub stands_leaves : {D : Type 0} (states : D → List Device) (vb : ShownVb D) (
 stands_leaves states vb copy s own image left = store_holds states vb copy s image own (survives s.held vb.store.layout (states vb.store.disk) image s.is_open.on_disk left)
 
 -- and of one whose log is all on disk
-pub all_leaves : {D : Type 0} (states : D → List Device) (vb : ShownVb D) (copy : Copy Content ℕ) → IsFit vb.store.meta vb.core vb.recent vb.flushed vb.seen → Lives states vb copy → IsAllOnDisk copy → (image : List ℕ) → MayLeave (states vb.store.disk) image → HoldsSound copy image
+pub all_leaves : {D : Type 0} (states : D → List Device) (vb : ShownVb D) (copy : Copy Content ℕ) → IsFit vb.store.meta vb.core vb.recent vb.seen → Lives states vb copy → IsAllOnDisk copy → (image : List ℕ) → MayLeave (states vb.store.disk) image → HoldsSound copy image
 all_leaves states vb copy fit l all image left =
     let s = l.stands in
     let own = own_of states vb copy fit s in
@@ -137,12 +137,12 @@ all_leaves states vb copy fit l all image left =
       sound = record { whole = subst IsWhole (sym all.log) s.whole; told = inr (s.told all.accepted) };
     }
 
-pub copy_leaves : {D : Type 0} (states : D → List Device) (vb : ShownVb D) (copy : Copy Content ℕ) → IsFit vb.store.meta vb.core vb.recent vb.flushed vb.seen → IsCopy states vb copy → (image : List ℕ) → MayLeave (states vb.store.disk) image → HoldsOf copy image
+pub copy_leaves : {D : Type 0} (states : D → List Device) (vb : ShownVb D) (copy : Copy Content ℕ) → IsFit vb.store.meta vb.core vb.recent vb.seen → IsCopy states vb copy → (image : List ℕ) → MayLeave (states vb.store.disk) image → HoldsOf copy image
 copy_leaves states vb copy fit (inl l) image left = stands_leaves states vb copy l.stands (own_of states vb copy fit l.stands) image left
 copy_leaves states vb copy fit (inr s) image left = s.leaves image left
 
 -- a vbucket whose disk has the states that it had leaves what its copy holds
-pub same_leaves : {D : Type 0} (states : D → List Device) (old new : ShownVb D) (copy after : Copy Content ℕ) → states new.store.disk ≡ states old.store.disk → IsFit old.store.meta old.core old.recent old.flushed old.seen → IsCopy states old copy
+pub same_leaves : {D : Type 0} (states : D → List Device) (old new : ShownVb D) (copy after : Copy Content ℕ) → states new.store.disk ≡ states old.store.disk → IsFit old.store.meta old.core old.recent old.seen → IsCopy states old copy
     → Leaves states copy after old new
 same_leaves states old new copy after same fit is =
     stays_put (λ image. HoldsOf copy image ⊎ HoldsOf after image) (states old.store.disk) (states new.store.disk) same (λ image left. inl (copy_leaves states old copy fit is image left))

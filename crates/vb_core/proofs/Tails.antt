@@ -1,19 +1,15 @@
 -- What a store's tail tells, and what its items make.
-use Rattle.std.specs.Prelude.{◌≡◌, ◌≤◌, ◌<◌, ℕ, ◌+◌, ◌^◌, nat_eq, nat_le, nat_lt, ◌==◌, Bool, true, false, cond, ◌&&◌, List, [], ◌∷◌, ◌++◌, length, drop, map as list_map, IsTrue, Option, Some, None, refl}
+use Rattle.std.specs.Prelude.{◌≡◌, ◌≤◌, ◌<◌, ℕ, ◌+◌, ◌^◌, nat_eq, nat_le, ◌==◌, true, false, ◌&&◌, List, [], ◌∷◌, ◌++◌, length, drop, map as list_map, IsTrue, Some, None, refl}
 use Rattle.std.specs.Int.{w32, to_be_bytes}
 use Rattle.std.specs.FinMap as map
-use Rattle.std.specs.List.{AllByRecursion, IsDistinct}
+use Rattle.std.specs.List.{IsDistinct}
 use Rattle.std.specs.Ordering.{eq_by_cmp}
 use Rattle.std.proofs.Common.{sym, ◌∙◌, ap, subst, arith, length-append, append-nil, le_trans}
 use Rattle.std.proofs.lemmas.Bool.Decides.{nat_tests}
 use Rattle.std.proofs.lemmas.List.{drop_at, drop_all}
-use Rattle.std.proofs.lemmas.List.Sorted.{IsPermutation-map}
 use Rattle.doc_model.specs.declared.document.Item.{Item}
 use Rattle.doc_model.specs.declared.key.DocKey.{DocKey}
 use Rattle.doc_model.specs.Keys.{key_cmp}
-use Rattle.doc_model.specs.Values.{StandOnce}
-use Rattle.doc_model.proofs.Drops.{get_kept}
-use Rattle.doc_model.proofs.Entries.{exact_keys, keys_total}
 use Rattle.doc_model.proofs.Weights.{weight_none}
 use Rattle.manifest_rules.specs.Catalog.{Catalog}
 use Rattle.manifest_rules.specs.Rules.{first_catalog}
@@ -25,14 +21,8 @@ use Rattle.vb_log.specs.declared.entry.Pending.{Pending}
 use Rattle.vb_log.specs.declared.limits.TheConstants.{GREATEST_CAS, GREATEST_POSITION}
 use Rattle.vb_log.specs.Content.{Content, no_content}
 use Rattle.vb_log.specs.Contents.{IsWhole, IsAllowedItem, numbers_in, bounds_of}
-use Rattle.vb_log.specs.Held.{item_weight, StandAtKeys}
-use Rattle.vb_log.specs.Parts.{is_behind}
+use Rattle.vb_log.specs.Held.{item_weight}
 use Rattle.vb_log.specs.Prepares.{IsAllowedPending, AreWaiting, PendingAt, pending_bytes, widest}
-use Rattle.vb_log.specs.Wholes.{by_keys}
-use Rattle.vb_log.proofs.Distinct.{distinct_moved}
-use Rattle.vb_log.proofs.Sorting.{are_own}
-use Rattle.vb_log.proofs.Wholes.{item_keys, same_made}
-use Rattle.magma_store.specs.Store.{AreSince, behind}
 use Rattle.vb_core.specs.Pairs.{IsTail, IsNoTail}
 use Rattle.vb_core.specs.Shown.{AreStorable}
 
@@ -147,46 +137,3 @@ widened c before (p ∷ ps) short small w = (
 
 pub whole_waiting : (c : Content) → IsWhole c → IsAllowedPending c.prepares
 whole_waiting c w = record { waiting = widened c 0 c.prepares w.parts.short w.parts.cas w.parts.prepares.waiting; few = w.parts.prepares.few }
-
--- ---- items
-
-is_behind_none : (i : Item) → 1 ≤ i.seqno → nat_lt 0 i.seqno ≡ true
-is_behind_none i later = grind (arith, nat_tests)
-
--- all items lie behind the beginning
-pub all_behind : (items : map.FinMap key_cmp Item) → AreStorable items → behind 0 items ≡ items
-all_behind items all = map.same_map keys_total exact_keys _ _ (λ q. get_kept items (λ key. is_behind 0 (map.get items key)) q ∙ go q (map.get items q) refl)
-  where
-    go : (q : DocKey) (o : Option Item) → map.get items q ≡ o → cond (is_behind 0 o) o None ≡ o
-    go q (Some i) at = ap (λ b. cond b (Some i) None) (is_behind_none i (all q i at).later)
-    go q None at = refl
-
-apart_from : (q : DocKey) (items : List Item) → map.find key_cmp q (by_keys items) ≡ None → AllByRecursion (λ (k : DocKey). eq_by_cmp key_cmp q k ≡ false) (item_keys items)
-apart_from q [] none = tt
-apart_from q (i ∷ is) none = step (eq_by_cmp key_cmp q i.key) refl (apart_from q is) none
-  where
-    step : (b : Bool) → eq_by_cmp key_cmp q i.key ≡ b → (map.find key_cmp q (by_keys is) ≡ None → AllByRecursion (λ (k : DocKey). eq_by_cmp key_cmp q k ≡ false) (item_keys is)) → cond b (Some i) (map.find key_cmp q (by_keys is)) ≡ None
-        → AllByRecursion (λ (k : DocKey). eq_by_cmp key_cmp q k ≡ false) (item_keys (i ∷ is))
-    step true e rest none = absurd (cc)
-    step false e rest none = (e, rest none)
-
-once_distinct : (items : List Item) → StandOnce (by_keys items) → IsDistinct (eq_by_cmp key_cmp) (item_keys items)
-unfolding IsDistinct
-once_distinct [] once = tt
-once_distinct (i ∷ is) once = (apart_from i.key is once.0, once_distinct is once.1)
-
--- the items that a store hands out from the beginning are all that it has
-pub record AreAll (items : map.FinMap key_cmp Item) (found : List Item) : Type 0 where
-  pub made : map.from_entries (by_keys found) ≡ items
-  pub distinct : IsDistinct (eq_by_cmp key_cmp) (item_keys found)
-
-pub since_all : (items : map.FinMap key_cmp Item) (found : List Item) → AreStorable items → StandAtKeys items → AreSince 0 items found → AreAll items found
-since_all items found all stand s =
-    let whole = all_behind items all in
-    let stand_behind : StandAtKeys (behind 0 items) = subst StandAtKeys (sym whole) stand in
-    let o = are_own (behind 0 items) s.values s.are stand_behind in
-    let distinct : IsDistinct (eq_by_cmp key_cmp) (item_keys s.values) = once_distinct s.values o.once in
-    record {
-      made = sym (same_made s.values found s.moved distinct) ∙ o.made ∙ whole;
-      distinct = distinct_moved keys_total (item_keys s.values) (item_keys found) (IsPermutation-map (λ (i : Item). i.key) s.values found s.moved) distinct;
-    }

@@ -1,8 +1,6 @@
 -- How a vbucket begins on what a store holds.
-use Rattle.std.specs.Prelude.{◌≡◌, ◌⊎◌, ℕ, ◌+◌, ◌<◌, Bool, true, false, List, [], Option, Some, None, Result, Ok, Err, IfOk, IfSome}
+use Rattle.std.specs.Prelude.{◌≡◌, ◌⊎◌, ℕ, ◌+◌, ◌<◌, Bool, true, false, List, [], Option, Some, None, Result, Ok, Err, IfOk, IfSome, if◌then◌else◌}
 use Rattle.std.specs.FinMap as map
-use Rattle.doc_model.specs.declared.document.Item.{Item}
-use Rattle.doc_model.specs.Keys.{key_cmp}
 use Rattle.manifest_rules.specs.Catalog.{Catalog}
 use Rattle.manifest_rules.specs.Rules.{first_catalog}
 use Rattle.replica_core.specs.declared.copy.CopyCore.{CopyCore}
@@ -13,19 +11,17 @@ use Rattle.magma_store.specs.declared.fault.StoreFault.{StoreFault}
 use Rattle.magma_store.specs.declared.fault.StoreFault.TheVariants as fault
 use Rattle.magma_store.specs.declared.meta.Meta.{Meta}
 use Rattle.magma_store.specs.Held.{Held}
+use Rattle.magma_store.specs.Spots.{spots_size}
 use Rattle.magma_store.specs.Store.{Shown, IsOpen}
+use Rattle.magma_store.specs.Whole.{content_of}
 use Rattle.vb_log.specs.declared.entry.Pending.{Pending}
 use Rattle.vb_log.specs.Content.{Content, no_content}
 use Rattle.vb_log.specs.Contents.{IsWhole}
-use Rattle.vb_log.specs.Flushing.{AreByPosition}
-use Rattle.vb_log.specs.Held.{StandAtKeys}
 use Rattle.vb_log.specs.Logs.{folds}
-use Rattle.vb_log.specs.Wholes.{AreParts}
 use Rattle.copy_model.specs.Copies.{Pair, Copy}
 use Rattle.copy_model.specs.Disk.{needed, free}
 use Rattle.vb_core.specs.Flat.{flat}
 use Rattle.vb_core.specs.Means.{Stands}
-use Rattle.vb_core.specs.Noting.{Notes}
 use Rattle.vb_core.specs.Openings.{IsSound, begun, put_on_disk}
 use Rattle.vb_core.specs.Pairs.{IsTail, IsNoTail, Tells, IsPair, HoldsOf}
 use Rattle.vb_core.specs.Shown.{ShownVb}
@@ -38,23 +34,10 @@ abbrev pub TailRead : List ℕ → Option (Catalog × List Pending) → Type 0
 TailRead tail (Some parts) = ((tail ≡ []) × (parts.0 ≡ first_catalog) × (parts.1 ≡ [])) ⊎ IsTail tail parts.0 parts.1
 TailRead tail None = (tail ≡ [] → ⊥) × IsNoTail tail
 
--- no whole content has these items and parts
-abbrev pub NoneOf : List Item → ℕ → ℕ → Option (Catalog × List Pending) → Type 0
-NoneOf items cas last (Some parts) = (c : Content) → AreParts items parts.1 parts.0 cas last c → IsWhole c → ⊥
-NoneOf items cas last None = Unit {0}
-
--- the content begins anew, since no whole one has these items and parts; or it has them
-abbrev pub BeginsOf : List Item → ℕ → ℕ → Option (Catalog × List Pending) → Content → Bool → Type 0
-BeginsOf items cas last parts content true = (content ≡ no_content) × NoneOf items cas last parts
-BeginsOf items cas last (Some parts) content false = AreParts items parts.1 parts.0 cas last content
-BeginsOf items cas last None content false = ⊥
-
 -- a store holds this content
 pub record IsFound (held : Held) (content : Content) : Type 0 where
-  pub items_are : content.items ≡ held.items
+  pub is : content ≡ content_of held content.manifest content.prepares
   pub told : ((held.meta.tail ≡ []) × (content.manifest ≡ first_catalog) × (content.prepares ≡ [])) ⊎ IsTail held.meta.tail content.manifest content.prepares
-  pub cas_is : content.greatest_cas ≡ held.meta.cas
-  pub length_is : content.length ≡ held.meta.length
 
 -- a store holds no whole content, and the log begins without entries
 pub record IsBroken (held : Held) (content : Content) : Type 0 where
@@ -68,6 +51,17 @@ pub record IsBroken (held : Held) (content : Content) : Type 0 where
 abbrev pub BeginsFrom : Held → Content → Bool → Type 0
 BeginsFrom held content true = IsBroken held content
 BeginsFrom held content false = IsFound held content
+
+-- all of a whole content but its items
+pub record IsRestOf (content rest : Content) : Type 0 where
+  pub whole : IsWhole content
+  pub rest_is : rest ≡ record content { items = map.empty }
+
+-- a log begins on what a store holds with a content of which this is all but the items
+pub record BeginsWithout (held : Held) (rest : Content) (is_anew : Bool) : Type 0 where
+  pub content : Content
+  pub from : BeginsFrom held content is_anew
+  pub rest_of : IsRestOf content rest
 
 -- ---- what is in memory
 
@@ -84,23 +78,14 @@ core_at meta length = record {
   incarnation = meta.incarnation;
 }
 
--- the parts in memory of a vbucket whose items are on disk
-pub record AreInMemory (meta : Meta) (content : Content) (core : CopyCore) (recent : Content) (flushed : map.FinMap key_cmp ℕ) : Type 0 where
-  pub core_is : core ≡ core_at meta content.length
-  pub recent_is : recent ≡ record content { items = map.empty }
-  pub batch : List Item
-  pub by : AreByPosition content.items batch
-  pub stand : StandAtKeys content.items
-  pub notes : Notes map.empty batch flushed
-
 -- a vbucket before its term is on disk
-abbrev pub vb_begun : {D : Type 0} → Shown D → ℕ → Bool → CopyCore → Content → map.FinMap key_cmp ℕ → ShownVb D
-vb_begun store number is_anew core recent flushed = record {
+abbrev pub vb_begun : {D : Type 0} → Shown D → ℕ → Bool → CopyCore → Content → ShownVb D
+vb_begun store number is_anew core recent = record {
   store = store;
   core = core;
   number = number;
   recent = recent;
-  flushed = flushed;
+  showing = if is_anew then 0 else spots_size store.spots;
   is_anew = is_anew;
   seen = 0;
   inherited = core.length;

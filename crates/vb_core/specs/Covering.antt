@@ -1,26 +1,36 @@
 -- A vbucket with one entry more, which covers what some keys had.
-use Rattle.std.specs.Prelude.{◌≡◌, ◌<◌, ◌^◌, ◌+◌, ℕ, not, true, false, List, Option, Some, None, unwrap_or}
+use Rattle.std.specs.Prelude.{◌≡◌, ◌<◌, ◌^◌, ◌+◌, ◌-◌, ℕ, Bool, true, false, List, Option, Some, None, if◌then◌else◌}
 use Rattle.std.specs.FinMap as map
 use Rattle.doc_model.specs.declared.key.DocKey.{DocKey}
+use Rattle.doc_model.specs.declared.document.Item.{Item}
 use Rattle.doc_model.specs.Keys.{key_cmp, is_in}
-use Rattle.doc_model.specs.Values.{weight_of}
 use Rattle.vb_log.specs.declared.entry.Entry.{Entry}
 use Rattle.vb_log.specs.Content.{Content, with_entry}
 use Rattle.vb_log.specs.Sizes.{entry_length}
 use Rattle.copy_model.specs.Copies.{Copy}
 use Rattle.copy_model.specs.Disk.{must_flush}
 use Rattle.copy_model.specs.Requests.{is_too_much}
+use Rattle.magma_store.specs.declared.spot.Spot.{Spot}
+use Rattle.magma_store.specs.Spots.{size_at, spots_size}
+use Rattle.vb_core.specs.Means.{uncovered}
 use Rattle.vb_core.specs.Shown.{ShownVb}
 
--- what is left of what keys count, without a key, or else without some collections
-abbrev pub without_covered : map.FinMap key_cmp ℕ → Option DocKey → List ℕ → map.FinMap key_cmp ℕ
-without_covered flushed (Some key) dropped = map.remove flushed key
-without_covered flushed None dropped = map.retain_keys flushed (λ key. not (is_in dropped key))
+-- the spots of the items on disk that show: of keys that weren't changed of late, none where the log was begun anew
+abbrev pub spots_shown : Bool → map.FinMap key_cmp Item → map.FinMap key_cmp Spot → map.FinMap key_cmp Spot
+spots_shown is_anew recent spots = if is_anew then map.empty else uncovered recent spots
 
--- what a key counts, or else what some collections count
-abbrev pub covered_size : map.FinMap key_cmp ℕ → Option DocKey → List ℕ → ℕ
-covered_size flushed (Some key) dropped = unwrap_or (map.get flushed key) 0
-covered_size flushed None dropped = weight_of (λ n. n) (map.retain_keys flushed (is_in dropped))
+-- what the item of a key counts, or else what those of some collections count
+abbrev pub size_among : map.FinMap key_cmp Spot → Option DocKey → List ℕ → ℕ
+size_among spots (Some key) dropped = size_at (map.get spots key)
+size_among spots None dropped = spots_size (map.retain_keys spots (is_in dropped))
+
+-- what shows on disk of a key, or else of some collections
+abbrev pub covered_size : {D : Type 0} → ShownVb D → Option DocKey → List ℕ → ℕ
+covered_size vb covered dropped = size_among (spots_shown vb.is_anew vb.recent.items vb.store.spots) covered dropped
+
+-- what the item at its key's spot counts, where its collection is one of these
+abbrev pub size_within : List ℕ → map.FinMap key_cmp Spot → Item → ℕ
+size_within dropped spots i = if is_in dropped i.key then size_at (map.get spots i.key) else 0
 
 -- a vbucket that counts one entry more which isn't on disk, of which the spelling has so many bytes
 abbrev pub counted : {D : Type 0} → ℕ → ShownVb D → ShownVb D
@@ -31,7 +41,7 @@ abbrev pub grown : {D : Type 0} → Entry → Option DocKey → List ℕ → Sho
 grown e covered dropped vb = record vb {
   core = record vb.core { length = (with_entry vb.recent e).length };
   recent = with_entry vb.recent e;
-  flushed = without_covered vb.flushed covered dropped;
+  showing = vb.showing - covered_size vb covered dropped;
   unflushed_entries = vb.unflushed_entries + 1;
   unflushed_bytes = vb.unflushed_bytes + entry_length e;
 }

@@ -1,5 +1,5 @@
 -- The layouts of the store's flat journal, as a copy goes by them.
-use Rattle.std.specs.Prelude.{ℕ, ◌+◌, nat_eq, Bool, true, false, List, ◌++◌, if◌then◌else◌}
+use Rattle.std.specs.Prelude.{ℕ, ◌+◌, nat_eq, Bool, false, List, ◌++◌, if◌then◌else◌}
 use Rattle.std.specs.FinMap as map
 use Rattle.doc_model.specs.declared.document.Item.{Item}
 use Rattle.durability_core.specs.declared.chain.Chain.{Chain}
@@ -7,7 +7,7 @@ use Rattle.manifest_rules.specs.State.{state_of}
 use Rattle.vb_log.specs.Content.{Content}
 use Rattle.vb_log.specs.Parts.{difference}
 use Rattle.vb_log.specs.Prepares.{pending_bytes}
-use Rattle.copy_model.specs.Copies.{Cleaning, Nothing, LayoutKind}
+use Rattle.copy_model.specs.Copies.{Nothing, LayoutKind}
 use Rattle.magma_store.specs.Layout.{write_size, sets_size, made_size, needed_for, free}
 
 -- the items that are put on disk of a content whose log has so many entries there, or of one that was begun anew

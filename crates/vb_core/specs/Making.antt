@@ -1,5 +1,5 @@
 -- What a request does to a vbucket that is a copy.
-use Rattle.std.specs.Prelude.{◌≡◌, ◌⊎◌, ◌≤◌, ◌<◌, ◌+◌, ◌*◌, ◌^◌, ℕ, max, is_none, nat_eq, Bool, List, [], ◌∷◌, Option, Some, None, Result, Ok, Err}
+use Rattle.std.specs.Prelude.{◌≡◌, ◌⊎◌, ◌≤◌, ◌+◌, ◌*◌, ◌^◌, ℕ, max, is_none, nat_eq, Bool, List, [], ◌∷◌, Option, Some, None, Result, Ok, Err}
 use Rattle.kv_edge.specs.Edge.{Rose}
 use Rattle.doc_model.specs.declared.key.DocKey.{DocKey}
 use Rattle.doc_model.specs.declared.status.Refused.{Refused}
@@ -26,7 +26,7 @@ use Rattle.vb_log.specs.Spelling.{IsAllowedDoc}
 use Rattle.copy_model.specs.declared.outcome.Outcome.{Outcome}
 use Rattle.copy_model.specs.Copies.{Copy}
 use Rattle.copy_model.specs.Entries.{added, log_length}
-use Rattle.copy_model.specs.Requests.{changing, refusal, step_on}
+use Rattle.copy_model.specs.Requests.{changing, refusal}
 use Rattle.replica_core.specs.Terms.{is_active}
 use Rattle.vb_core.specs.declared.making.Made.{Made}
 use Rattle.vb_core.specs.declared.making.Made.TheVariants as made

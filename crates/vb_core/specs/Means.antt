@@ -1,5 +1,5 @@
 -- Which copy a vbucket is.
-use Rattle.std.specs.Prelude.{◌≡◌, ◌⊎◌, ◌≤◌, ◌<◌, ℕ, Bool, false, List, [], Option, Some, None, option_map}
+use Rattle.std.specs.Prelude.{◌≡◌, ◌⊎◌, ◌≤◌, ◌<◌, ℕ, is_none, Bool, false, List, [], Option, Some, None}
 use Rattle.std.specs.FinMap as map
 use Rattle.doc_model.specs.declared.key.DocKey.{DocKey}
 use Rattle.doc_model.specs.declared.document.Item.{Item}
@@ -7,7 +7,7 @@ use Rattle.doc_model.specs.Keys.{key_cmp}
 use Rattle.manifest_rules.specs.Catalog.{Catalog}
 use Rattle.vb_log.specs.Content.{Content}
 use Rattle.vb_log.specs.Contents.{IsWhole}
-use Rattle.vb_log.specs.Held.{item_weight}
+use Rattle.vb_log.specs.Held.{items_size}
 use Rattle.vb_log.specs.Logs.{folds}
 use Rattle.copy_model.specs.Copies.{Copy}
 use Rattle.copy_model.specs.Entries.{core_of}
@@ -30,16 +30,15 @@ abbrev pub over : Option Item → Option Item → Option Item
 over (Some item) under = Some item
 over None under = under
 
--- what an item beneath counts, where no other lies over it
-abbrev pub size_beneath : Option Item → Option Item → Option ℕ
-size_beneath (Some item) under = None
-size_beneath None under = option_map item_weight under
+-- what keys have that have no item which lies over it
+abbrev pub uncovered : {X : Type 0} → map.FinMap key_cmp Item → map.FinMap key_cmp X → map.FinMap key_cmp X
+uncovered recent under = map.retain_keys under (λ key. is_none (map.get recent key))
 
--- What was changed of late, over these items on disk, is a log's content; and of each key it is known what its item on disk
--- counts, where that still shows.
-pub record Shows (recent : Content) (flushed : map.FinMap key_cmp ℕ) (under : map.FinMap key_cmp Item) (log : Content) : Type 0 where
+-- What was changed of late, over these items on disk, is a log's content; and those of them that no other lies over count so
+-- much together.
+pub record Shows (recent : Content) (showing : ℕ) (under : map.FinMap key_cmp Item) (log : Content) : Type 0 where
   pub items : (key : DocKey) → map.get log.items key ≡ over (map.get recent.items key) (map.get under key)
-  pub sizes : (key : DocKey) → map.get flushed key ≡ size_beneath (map.get recent.items key) (map.get under key)
+  pub count : showing ≡ items_size (uncovered recent.items under)
   pub others : recent ≡ record log { items = recent.items }
 
 -- items were made up to a position, or behind one
@@ -72,7 +71,7 @@ pub record Stands {D : Type 0} (states : D → List Device) (vb : ShownVb D) (co
   pub whole : IsWhole copy.log
   pub told : copy.disk.accepted ≡ copy.accepted → IsTail held.meta.tail copy.disk.log.manifest copy.disk.log.prepares
   -- the log is what was changed of late over what is on disk
-  pub shows : Shows vb.recent vb.flushed (beneath vb.is_anew copy.log.manifest held.items) copy.log
+  pub shows : Shows vb.recent vb.showing (beneath vb.is_anew copy.log.manifest held.items) copy.log
   pub made : MadeUpTo copy.log.length copy.log.items
   pub on_disk : vb.is_anew ≡ false → MadeUpTo held.meta.length held.items
   pub longer : vb.is_anew ≡ false → held.meta.length ≤ copy.log.length

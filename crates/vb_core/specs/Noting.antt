@@ -1,12 +1,9 @@
--- What is noted of items that are put on disk, and what putting them there comes to.
-use Rattle.std.specs.Prelude.{◌≡◌, ◌⊎◌, ◌≤◌, ◌<◌, ◌+◌, ℕ, Bool, List, [], ◌∷◌, length, None, Result, Ok, Err}
-use Rattle.std.specs.FinMap as map
-use Rattle.std.specs.List.{AllByRecursion}
+-- What putting items on disk comes to.
+use Rattle.std.specs.Prelude.{◌≡◌, ◌⊎◌, ◌≤◌, ◌<◌, ◌+◌, ℕ, Bool, List, Result, Ok, Err}
 use Rattle.doc_model.specs.declared.document.Item.{Item}
-use Rattle.doc_model.specs.Keys.{key_cmp}
 use Rattle.vb_log.specs.Content.{Content}
 use Rattle.vb_log.specs.Flushing.{AreByPosition}
-use Rattle.vb_log.specs.Held.{item_weight, StandAtKeys}
+use Rattle.vb_log.specs.Held.{StandAtKeys}
 use Rattle.magma_disk.specs.Device.{Device}
 use Rattle.magma_disk.specs.Moments.{Throughout}
 use Rattle.magma_store.specs.declared.fault.StoreFault.{StoreFault}
@@ -19,27 +16,6 @@ use Rattle.replica_core.specs.declared.copy.Role.TheVariants as roles
 use Rattle.copy_model.specs.declared.outcome.VbFault.{VbFault}
 use Rattle.copy_model.specs.declared.outcome.VbFault.TheVariants as told
 use Rattle.vb_core.specs.Shown.{ShownVb}
-
--- ---- what is noted
-
--- what is noted of keys, once it is noted what these items count
-abbrev pub noted : map.FinMap key_cmp ℕ → List Item → map.FinMap key_cmp ℕ
-noted sizes [] = sizes
-noted sizes (i ∷ is) = noted (map.insert sizes i.key (item_weight i)) is
-
--- what is noted of other keys than those of these items
-abbrev pub forgotten : map.FinMap key_cmp ℕ → List Item → map.FinMap key_cmp ℕ
-forgotten sizes [] = sizes
-forgotten sizes (i ∷ is) = forgotten (map.remove sizes i.key) is
-
--- of none of these items' keys is anything noted
-abbrev pub AreNew : map.FinMap key_cmp ℕ → List Item → Type 0
-AreNew sizes items = AllByRecursion (λ (i : Item). map.get sizes i.key ≡ None) items
-
--- it was noted what items count of whose keys nothing was noted
-pub record Notes (before : map.FinMap key_cmp ℕ) (items : List Item) (after : map.FinMap key_cmp ℕ) : Type 0 where
-  pub is : after ≡ noted before items
-  pub new : AreNew before items
 
 -- ---- what is put on disk
 
@@ -55,41 +31,38 @@ pub record IsBegun {D : Type 0} (states : D → List Device) (is_anew : Bool) (r
   pub moments : (held : Held) → IsOpen states held old
       → Throughout (Either held old.layout (written is_anew recent.manifest batch meta held) (old.layout + write_size meta.tail batch)) (states old.disk) (states new.disk)
 
--- the batch is on disk, and what it counts is noted
-pub record IsPutDown {D : Type 0} (states : D → List Device) (is_anew : Bool) (recent : Content) (meta : Meta) (before after : map.FinMap key_cmp ℕ) (old new : Shown D) : Type 0 where
+-- the batch is on disk
+pub record IsPutDown {D : Type 0} (states : D → List Device) (is_anew : Bool) (recent : Content) (meta : Meta) (old new : Shown D) : Type 0 where
   pub batch : List Item
   pub begun : IsBegun states is_anew recent meta batch old new
   pub done : (held : Held) → IsOpen states held old → IsOpen states (written is_anew recent.manifest batch meta held) new
   pub layout : new.layout ≡ old.layout + write_size meta.tail batch
   pub room : needed_for old.layout (write_size meta.tail batch) ≤ free old.layout
-  pub notes : Notes before batch after
 
 -- there is no room for the batch, and nothing changed
-pub record HasNoRoom {D : Type 0} (recent : Content) (meta : Meta) (before after : map.FinMap key_cmp ℕ) (old new : Shown D) (asked left : ℕ) : Type 0 where
+pub record HasNoRoom {D : Type 0} (recent : Content) (meta : Meta) (old new : Shown D) (asked left : ℕ) : Type 0 where
   pub batch : List Item
   pub of : IsBatchOf recent meta batch
   pub same : new ≡ old
-  pub unnoted : after ≡ before
   pub asked_is : asked ≡ needed_for old.layout (write_size meta.tail batch)
   pub left_is : left ≡ free old.layout
   pub full : free old.layout < needed_for old.layout (write_size meta.tail batch)
 
 -- the disk failed, which was asked for the batch only where there was room for it
-pub record IsStopped {D : Type 0} (states : D → List Device) (is_anew : Bool) (recent : Content) (meta : Meta) (before after : map.FinMap key_cmp ℕ) (old new : Shown D) : Type 0 where
+pub record IsStopped {D : Type 0} (states : D → List Device) (is_anew : Bool) (recent : Content) (meta : Meta) (old new : Shown D) : Type 0 where
   pub batch : List Item
   pub begun : IsBegun states is_anew recent meta batch old new
   pub room : (needed_for old.layout (write_size meta.tail batch) ≤ free old.layout) ⊎ (states new.disk ≡ states old.disk)
-  pub unnoted : after ≡ before
 
 -- what putting what was changed of late on disk comes to
-abbrev pub PutsDown : {D : Type 0} → (D → List Device) → Bool → Content → Meta → map.FinMap key_cmp ℕ → map.FinMap key_cmp ℕ → Shown D → Shown D → Result (Unit {0}) StoreFault → Type 0
-PutsDown states is_anew recent meta before after old new (Ok u) = IsPutDown states is_anew recent meta before after old new
-PutsDown states is_anew recent meta before after old new (Err fault.DiskFault) = IsStopped states is_anew recent meta before after old new
-PutsDown states is_anew recent meta before after old new (Err (fault.Full asked left)) = HasNoRoom recent meta before after old new asked left
-PutsDown states is_anew recent meta before after old new (Err (fault.Damaged place found expected)) = ⊥
-PutsDown states is_anew recent meta before after old new (Err (fault.Spent found)) = ⊥
-PutsDown states is_anew recent meta before after old new (Err fault.OtherChain) = ⊥
-PutsDown states is_anew recent meta before after old new (Err fault.NoMemory) = (new ≡ old) × (after ≡ before)
+abbrev pub PutsDown : {D : Type 0} → (D → List Device) → Bool → Content → Meta → Shown D → Shown D → Result (Unit {0}) StoreFault → Type 0
+PutsDown states is_anew recent meta old new (Ok u) = IsPutDown states is_anew recent meta old new
+PutsDown states is_anew recent meta old new (Err fault.DiskFault) = IsStopped states is_anew recent meta old new
+PutsDown states is_anew recent meta old new (Err (fault.Full asked left)) = HasNoRoom recent meta old new asked left
+PutsDown states is_anew recent meta old new (Err (fault.Damaged place found expected)) = ⊥
+PutsDown states is_anew recent meta old new (Err (fault.Spent found)) = ⊥
+PutsDown states is_anew recent meta old new (Err fault.OtherChain) = ⊥
+PutsDown states is_anew recent meta old new (Err fault.NoMemory) = new ≡ old
 
 -- a vbucket whose store has a fault: the copy is dead where its disk failed
 abbrev pub stopped_at : {D : Type 0} → StoreFault → ShownVb D → ShownVb D

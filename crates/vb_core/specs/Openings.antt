@@ -1,9 +1,7 @@
 -- What opening a vbucket comes to.
-use Rattle.std.specs.Prelude.{◌≡◌, ◌⊎◌, ◌+◌, ◌<◌, ℕ, true, false, List, [], ◌∷◌, Option, Some, None, Result, Ok, Err, IfSome, IsTrue}
+use Rattle.std.specs.Prelude.{◌≡◌, ◌⊎◌, ◌+◌, ◌<◌, ℕ, false, List, [], ◌∷◌, Result, Ok, Err}
 use Rattle.durability_core.specs.declared.chain.Chain.{Chain}
 use Rattle.magma_disk.specs.Device.{Device}
-use Rattle.magma_disk.specs.Calls.{MayLeave}
-use Rattle.magma_disk.specs.Moments.{Throughout}
 use Rattle.magma_store.specs.declared.fault.StoreFault.{StoreFault}
 use Rattle.magma_store.specs.declared.fault.StoreFault.TheVariants as fault
 use Rattle.magma_store.specs.Held.{Held, IsStore, IsUnused}

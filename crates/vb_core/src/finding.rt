@@ -1,6 +1,6 @@
 //! How a document is found, and what a request does to it.
 
-ghost use Rattle.std.specs.Prelude.{◌≡◌, ◌⊎◌, ◌<◌, ◌^◌, ℕ, Some, IfOk, IfErr, IfSome};
+ghost use Rattle.std.specs.Prelude.{◌≡◌, ◌⊎◌, ◌<◌, ◌^◌, ℕ, true, Some, IfOk, IfErr, IfSome};
 ghost use Rattle.std.specs.Option.{option_copied};
 ghost use Rattle.std.specs.FinMap as map;
 ghost use Rattle.kv_edge.specs.Edge.{Rose};
@@ -12,7 +12,7 @@ ghost use Rattle.copy_model.specs.Copies.{Copy};
 ghost use Rattle.copy_model.specs.Requests.{step_on};
 ghost use Rattle.magma_store.specs.Counting.{CountsStore};
 ghost use Rattle.vb_log.specs.Content as contents;
-ghost use Rattle.vb_log.specs.Content.{doc_in, stored_doc};
+ghost use Rattle.vb_log.specs.Content.{doc_in, has_collection, stored_doc};
 ghost use Rattle.vb_log.specs.Stored.{IsStorable};
 ghost use Rattle.vb_core.specs.Coming.{Rests};
 ghost use Rattle.vb_core.specs.Making.{drawn_by, PlansOn, IsPlanned};
@@ -43,6 +43,7 @@ impl<D: Disk> Vb<D> {
         requires key { key_named request.now.body ≡ Some key.now }
         requires initial { HasSmallInitial request.now.body }
         requires cas { cas ≡ drawn_by self.old }
+        requires there { has_collection self.old.recent.manifest key.now.collection ≡ true }
         ensures planned { (copy : Copy contents.Content ℕ) → Stands D.states self.old copy
             → PlansOn (step_on copy.log copy.seen now request.now) (D.counts self.old.store.disk).faults
             (D.counts self.new.store.disk).faults result }
@@ -65,8 +66,9 @@ impl<D: Disk> Vb<D> {
         }
     }
 
-    /// The item of a key, read from the disk where it isn't in memory and is there.
+    /// The item of a key whose collection is there, read from the disk where it isn't in memory and is there.
     fn read(&mut self, key: &DocKey) -> Result<Option<Item>, Refused>
+        requires there { has_collection self.old.recent.manifest key.now.collection ≡ true }
         ensures found { (copy : Copy contents.Content ℕ) → Stands D.states self.old copy
             → IfOk result (λ read. over (map.get self.old.recent.items key.now) read ≡ map.get copy.log.items key.now) }
         ensures storable { IfOk result (λ read. IfSome read IsStorable) }
@@ -76,10 +78,7 @@ impl<D: Disk> Vb<D> {
         ensures rests { Rests D.states self.old self.new }
         ensures counts { CountsStore ⊥ (D.counts self.old.store.disk) (D.counts self.new.store.disk) }
     {
-        if item(&self.recent, key).is_some() {
-            return Ok(None);
-        }
-        if !self.flushed.has(key) {
+        if self.is_anew || item(&self.recent, key).is_some() {
             return Ok(None);
         }
         match self.store.get(key) {

@@ -2,8 +2,8 @@
 //!
 //! What a vbucket is, is its copy: its place in a chain, its role and term, its log, and what its disk may hold. A `Vb` keeps
 //! neither the log nor the documents that are on disk: it keeps what was changed since the last flush, with the manifest and
-//! what the log comes to beside its items, and of each item on disk its key and how much it counts (`specs/Means.antt`,
-//! `Stands`). Each call makes of the copy what a copy's event makes of it (`specs/Coming.antt`, `Comes`).
+//! what the log comes to beside its items, and how much the items on disk count that still show (`specs/Means.antt`,
+//! `Stands`); where these stand, the store knows. Each call makes of the copy what a copy's event makes of it (`specs/Coming.antt`, `Comes`).
 //!
 //! | Call | Event |
 //! |---|---|
@@ -39,7 +39,6 @@
 mod answering;
 mod changing;
 mod finding;
-mod flushed;
 mod making;
 mod opening;
 mod putting;

@@ -1,10 +1,13 @@
 //! How an entry is added.
 
-ghost use Rattle.std.specs.Prelude.{◌≡◌, ◌≤◌, ◌<◌, ◌^◌, ◌||◌, ℕ, nat_le, nat_lt, true, IsTrue, IfOk, OnOk, OnErr};
+ghost use Rattle.std.specs.Prelude.{◌≡◌, ◌<◌, ◌+◌, ◌^◌, ◌||◌, ℕ, nat_le, nat_lt, true, IsTrue, IfOk, OnOk, OnErr};
 ghost use Rattle.std.specs.Option.{option_copied};
-ghost use Rattle.doc_model.specs.Values.{weight_of};
+ghost use Rattle.std.specs.FinMap as map;
+ghost use Rattle.std.specs.List.{sum_by};
+ghost use Rattle.doc_model.specs.Keys.{is_in};
 ghost use Rattle.copy_model.specs.Copies.{Copy};
 ghost use Rattle.magma_store.specs.Counting.{CountsStore};
+ghost use Rattle.magma_store.specs.Spots.{size_at, spots_size};
 ghost use Rattle.manifest_rules.specs.State.{are_rising};
 ghost use Rattle.vb_log.specs.declared.limits.TheConstants.{GREATEST_POSITION};
 ghost use Rattle.vb_log.specs.Content as contents;
@@ -12,21 +15,20 @@ ghost use Rattle.vb_log.specs.Content.{allowed, with_entry};
 ghost use Rattle.vb_log.specs.Sizes.{size_after};
 ghost use Rattle.vb_log.specs.Spelling.{IsAllowed};
 ghost use Rattle.vb_core.specs.Coming.{Rests};
-ghost use Rattle.vb_core.specs.Covering.{without_covered, covered_size, counted, grown, CanCount, IsFlushedFirst};
+ghost use Rattle.vb_core.specs.Covering.{size_among, size_within, covered_size, counted, grown, CanCount, IsFlushedFirst};
 ghost use Rattle.vb_core.specs.Making.{Covers, Makes};
-ghost use Rattle.vb_core.specs.Means.{Lives, Stands};
+ghost use Rattle.vb_core.specs.Means.{Lives, Stands, uncovered};
 
-use crate::flushed::Flushed;
 use crate::vbucket::Vb;
 use copy_model::{CAS_LIMIT, REQUEST_LIMIT, UNFLUSHED_BYTES, UNFLUSHED_ENTRIES};
-use doc_model::{DocKey, Status};
+use doc_model::{DocKey, Item, Status};
 use kv_edge::NoMemory;
 use magma_disk::Disk;
-use magma_store::StoreFault;
+use magma_store::{Store, StoreFault};
 use std::alloc::Global;
 use vb_log::{
-    AddFault, CONTENT_LIMIT, Content, Entry, SUM_LIMIT, add, emptied, length, prepares, size,
-    size_after, spelt_length,
+    AddFault, CONTENT_LIMIT, Content, Entry, SUM_LIMIT, add, by_position, emptied, item, length,
+    prepares, size, size_after, spelt_length,
 };
 
 /// What came of a change.
@@ -57,9 +59,9 @@ impl<D: Disk> Vb<D> {
         if size(&self.recent) > CONTENT_LIMIT {
             return Err(NoMemory);
         }
-        let covered = self.covered(key, dropped);
+        let covered = self.covered(key, dropped)?;
         let recent = size_after(self.alloc, &self.recent, entry)?;
-        match recent.checked_add(self.flushed.total() - covered) {
+        match recent.checked_add(self.showing.saturating_sub(covered)) {
             Some(size) => Ok(size),
             None => Err(NoMemory),
         }
@@ -114,9 +116,10 @@ impl<D: Disk> Vb<D> {
         ensures err { OnErr result (self.new ≡ self.old) }
     {
         let bytes = spelt_length(&entry);
+        let covered = self.covered(key, dropped)?;
         add_within(self.alloc, &mut self.recent, entry)?;
         self.core.length = length(&self.recent);
-        cover(&mut self.flushed, key, dropped);
+        self.showing = self.showing.saturating_sub(covered);
         self.count(bytes);
         Ok(())
     }
@@ -147,22 +150,67 @@ impl<D: Disk> Vb<D> {
             Err(StoreFault::DiskFault) => return Ok(Made::Refused(Status::ETMPFAIL)),
             Err(_) => return Err(NoMemory),
         }
+        let covered = self.on_disk(key, dropped);
         self.recent = next;
         self.core.length = length(&self.recent);
-        cover(&mut self.flushed, key, dropped);
+        self.showing = self.showing.saturating_sub(covered);
         self.count(bytes);
         Ok(Made::Done)
     }
 
-    /// What counts on disk of the item of a key, or of those of collections whose ids rise.
-    fn covered(&self, key: Option<&DocKey>, dropped: &[u32]) -> u64
+    /// What shows on disk of the item of a key, or of those of collections whose ids rise.
+    fn covered(&self, key: Option<&DocKey>, dropped: &[u32]) -> Result<u64, NoMemory>
         requires { IsTrue (are_rising dropped.now) }
-        ensures value { result ≡ covered_size self.now.flushed (option_copied key.entry) dropped.now }
-        ensures part { result ≤ weight_of (λ n. n) self.now.flushed }
+        ensures { IfOk result (λ n. n ≡ covered_size self.now (option_copied key.entry) dropped.now) }
+    {
+        if self.is_anew {
+            return Ok(0);
+        }
+        match key {
+            Some(key) => Ok(self.covered_at(key)),
+            None => self.covered_in(dropped),
+        }
+    }
+
+    /// What the item of a key counts on disk, unless the key was changed of late.
+    fn covered_at(&self, key: &DocKey) -> u64
+        ensures { result ≡ size_at (map.get (uncovered self.now.recent.items self.now.store.spots) key.now) }
+    {
+        if item(&self.recent, key).is_some() {
+            return 0;
+        }
+        self.store.weight_at(key)
+    }
+
+    /// What the items of collections, whose ids rise, count on disk of keys that weren't changed of late. It costs a sort of the
+    /// items in memory, and a step for each item on disk of these collections.
+    fn covered_in(&self, dropped: &[u32]) -> Result<u64, NoMemory>
+        requires { IsTrue (are_rising dropped.now) }
+        ensures { IfOk result (λ n. n
+            ≡ spots_size (map.retain_keys (uncovered self.now.recent.items self.now.store.spots) (is_in dropped.now))) }
+    {
+        let changed = self.changed_in(dropped)?;
+        Ok(self.store.weight_in(dropped) - changed)
+    }
+
+    /// What the items of collections count on disk of keys that were changed of late: what doesn't show.
+    fn changed_in(&self, dropped: &[u32]) -> Result<u64, NoMemory>
+        ensures { IfOk result (λ n.
+            spots_size (map.retain_keys (uncovered self.now.recent.items self.now.store.spots) (is_in dropped.now)) + n
+            ≡ spots_size (map.retain_keys self.now.store.spots (is_in dropped.now))) }
+    {
+        let items = by_position(self.alloc, &self.recent)?;
+        total_within(&self.store, items.as_slice(), dropped)
+    }
+
+    /// What the item of a key counts on disk, or those of collections whose ids rise.
+    fn on_disk(&self, key: Option<&DocKey>, dropped: &[u32]) -> u64
+        requires { IsTrue (are_rising dropped.now) }
+        ensures { result ≡ size_among self.now.store.spots (option_copied key.entry) dropped.now }
     {
         match key {
-            Some(key) => self.flushed.size_at(key),
-            None => self.flushed.size_in(dropped),
+            Some(key) => self.store.weight_at(key),
+            None => self.store.weight_in(dropped),
         }
     }
 
@@ -191,15 +239,32 @@ fn must_flush(entries: u64, bytes: u64) -> bool
     entries >= UNFLUSHED_ENTRIES || bytes >= UNFLUSHED_BYTES
 }
 
-/// Takes away what is noted of the item of a key, or of those of collections whose ids rise.
-fn cover(flushed: &mut Flushed, key: Option<&DocKey>, dropped: &[u32])
-    requires { IsTrue (are_rising dropped.now) }
-    ensures { flushed.new ≡ without_covered flushed.old (option_copied key.entry) dropped.now }
+/// What the items on disk of these items' keys count together that are in these collections.
+fn total_within<D: Disk>(
+    store: &Store<D>,
+    items: &[&Item],
+    collections: &[u32],
+) -> Result<u64, NoMemory>
+    ensures { IfOk result (λ n. n ≡ sum_by (λ i. size_within collections.now store.now.spots i.now) items.now) }
 {
-    match key {
-        Some(key) => flushed.remove(key),
-        None => flushed.remove_collections(dropped),
+    let mut total: u64 = 0;
+    for item in items {
+        match total.checked_add(weight_within(store, item, collections)) {
+            Some(more) => total = more,
+            None => return Err(NoMemory),
+        }
     }
+    Ok(total)
+}
+
+/// What the item on disk of an item's key counts, where its collection is one of these.
+fn weight_within<D: Disk>(store: &Store<D>, item: &Item, collections: &[u32]) -> u64
+    ensures { result ≡ size_within collections.now store.now.spots item.now }
+{
+    if collections.contains(&item.key.collection) {
+        return store.weight_at(&item.key);
+    }
+    0
 }
 
 /// Adds an entry that is allowed, unless the content is too large or too long, or would become so. At `Err` the content is as

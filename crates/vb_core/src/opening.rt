@@ -1,24 +1,19 @@
 //! How a vbucket is opened.
 
 ghost use Rattle.std.specs.Prelude.{◌≡◌, ◌⊎◌, ◌<◌, ◌+◌, ◌↔◌, ◌^◌, ℕ, true, false, length, IsErr, IsSome, IsErrOf, IfOk, IfErr, IfSome};
-ghost use Rattle.std.specs.List.{AllByRecursion};
 ghost use Rattle.durability_core.specs.Chains.{IsChain};
 ghost use Rattle.magma_disk.specs.Moments.{Throughout};
 ghost use Rattle.magma_store.specs.Counting.{CountsStore};
 ghost use Rattle.magma_store.specs.Held.{Held};
-ghost use Rattle.magma_store.specs.Store.{IsOpen, IsOwn, IsUnread};
+ghost use Rattle.magma_store.specs.Store.{IsOpen, IsOwn};
 ghost use Rattle.copy_model.specs.Copies.{Copy};
 ghost use Rattle.vb_log.specs.Content as contents;
 ghost use Rattle.vb_log.specs.Contents.{IsWhole};
-ghost use Rattle.vb_log.specs.Stored.{IsStorable};
-ghost use Rattle.vb_core.specs.Beginning.{TailRead, BeginsOf, BeginsFrom, AreInMemory, BeginsIn, PutsFirst, StaysSilent, OpensOn, vb_begun};
+ghost use Rattle.vb_core.specs.Beginning.{TailRead, BeginsWithout, IsRestOf, BeginsIn, PutsFirst, StaysSilent, OpensOn, core_at, vb_begun};
 ghost use Rattle.vb_core.specs.Means.{Stands};
 ghost use Rattle.vb_core.specs.Openings.{OpensVb, LeavesBeginning, LeavesRefused, begun};
 
-use crate::flushed::Flushed;
-use crate::putting::note;
 use crate::vbucket::Vb;
-use doc_model::Item;
 use durability_core::Chain;
 use kv_edge::{Copied, NoMemory, Seq};
 use magma_disk::Disk;
@@ -26,26 +21,16 @@ use magma_store::{Meta, Store, StoreFault};
 use manifest_rules::{Manifest, StateFault, first, read_state};
 use replica_core::{CopyCore, Role};
 use std::alloc::Global;
-use vb_log::{
-    Content, ContentFault, Pending, by_position, emptied, empty, length, of_parts, read_pending,
-};
+use vb_log::{Content, ContentFault, Pending, empty, length, read_pending};
 
 /// By how much the term of an opening is above the one that was accepted last: a term of the next round has the same place.
 const NEXT_ROUND: u64 = 4;
 
-/// What a store holds: the content of its log, or none and the log begins anew.
+/// What a store holds: all of its log's content but the items, or none and the log begins anew.
 #[derive(Drop)]
 pub(crate) struct Begun {
     pub(crate) content: Content,
     pub(crate) is_anew: bool,
-}
-
-/// What a vbucket has in memory whose items are on disk.
-#[derive(Drop)]
-pub(crate) struct InMemory {
-    pub(crate) core: CopyCore,
-    pub(crate) recent: Content,
-    pub(crate) flushed: Flushed,
 }
 
 impl<D: Disk> Vb<D> {
@@ -97,51 +82,27 @@ fn on_store<D: Disk>(
     ensures counts { IfOk result.0 (λ vb. CountsStore (IsErrOf result.0 StoreFault.DiskFault) (D.counts store.disk) (D.counts vb.store.disk)) }
     ensures counts_back { IfSome result.1 (λ back. CountsStore (IsErrOf result.0 StoreFault.DiskFault) (D.counts store.disk) (D.counts back)) }
 {
-    let mut store = store;
-    match begin(alloc, &mut store) {
+    match begin(alloc, &store) {
         Ok(log) => with_term(alloc, store, number, log),
-        Err(fault) => (Err(fault), Some(store.finish())),
+        Err(NoMemory) => (Err(StoreFault::NoMemory), Some(store.finish())),
     }
 }
 
-/// What the log of a store comes to.
-fn begin<D: Disk>(alloc: Global, store: &mut Store<D>) -> Result<Begun, StoreFault>
-    ensures begins { (held : Held) → IsOpen D.states held store.old → IfOk result (λ b. BeginsFrom held b.content b.is_anew) }
-    ensures whole { IfOk result (λ b. IsWhole b.content) }
-    ensures stays { store.new ≡ record store.old { disk = store.new.disk } }
-    ensures states { D.states store.new.disk ≡ D.states store.old.disk }
-    ensures unread { IfErr result IsUnread }
-    ensures counts { CountsStore (IsErrOf result StoreFault.DiskFault) (D.counts store.old.disk) (D.counts store.new.disk) }
-{
-    let tail = read_tail(alloc, store.meta().tail.as_slice())?;
-    let items = store.since(0)?;
-    let last = store.meta().length;
-    let cas = store.meta().cas;
-    Ok(of_tail(alloc, items, tail, cas, last)?)
-}
-
-/// What a log comes to that has these items, and what was read of its tail; it begins anew where no whole content has them.
-fn of_tail(
-    alloc: Global,
-    items: Vec<Item>,
-    tail: Option<(Manifest, Seq<Pending>)>,
-    cas: u64,
-    last: u64,
-) -> Result<Begun, NoMemory>
-    ensures begins { IfOk result (λ b. BeginsOf items.items cas last tail b.content b.is_anew) }
+/// What the log of a store comes to; it begins anew where no whole content has the store's items. It reads no disk.
+fn begin<D: Disk>(alloc: Global, store: &Store<D>) -> Result<Begun, NoMemory>
+    ensures begins { (held : Held) → IsOpen D.states held store.now → IfOk result (λ b. BeginsWithout held b.content b.is_anew) }
     ensures whole { IfOk result (λ b. IsWhole b.content) }
 {
-    let (manifest, prepares) = match tail {
+    let (manifest, prepares) = match read_tail(alloc, store.meta().tail.as_slice())? {
         Some(parts) => parts,
         None => return begin_anew(alloc),
     };
-    match of_parts(alloc, items, prepares.into_vec(), manifest, cas, last) {
-        Ok(content) => Ok(Begun {
+    match store.beside_items(prepares.into_vec(), manifest)? {
+        Some(content) => Ok(Begun {
             content,
             is_anew: false,
         }),
-        Err(ContentFault::Bad(_)) => begin_anew(alloc),
-        Err(ContentFault::NoMemory) => Err(NoMemory),
+        None => begin_anew(alloc),
     }
 }
 
@@ -192,15 +153,14 @@ fn with_term<D: Disk>(
     requires numbers { store.meta.accepted + 4 < 2 ^ 64 }
     requires whole { IsWhole log.content }
     ensures handed_back { IsErr result.0 ↔ IsSome result.1 }
-    ensures puts { (c : Copy contents.Content ℕ) → BeginsIn D.states store number log.content log.is_anew c
-        → PutsFirst D.states (D.states store.disk) (begun c) result.0 result.1 }
+    ensures puts { (content : contents.Content) (c : Copy contents.Content ℕ) → IsRestOf content log.content
+        → BeginsIn D.states store number content log.is_anew c → PutsFirst D.states (D.states store.disk) (begun c) result.0 result.1 }
     ensures silent { StaysSilent D.states (D.states store.disk) result.0 result.1 }
     ensures counts { IfOk result.0 (λ vb. CountsStore (IsErrOf result.0 StoreFault.DiskFault) (D.counts store.disk) (D.counts vb.store.disk)) }
     ensures counts_back { IfSome result.1 (λ back. CountsStore (IsErrOf result.0 StoreFault.DiskFault) (D.counts store.disk) (D.counts back)) }
 {
-    let Begun { content, is_anew } = log;
-    match in_memory(alloc, store.meta(), &content) {
-        Ok(parts) => put_first(in_store(alloc, store, number, is_anew, parts)),
+    match core_of(alloc, store.meta(), length(&log.content)) {
+        Ok(core) => put_first(in_store(alloc, store, number, core, log)),
         Err(NoMemory) => (Err(StoreFault::NoMemory), Some(store.finish())),
     }
 }
@@ -210,26 +170,23 @@ fn in_store<D: Disk>(
     alloc: Global,
     store: Store<D>,
     number: u16,
-    is_anew: bool,
-    parts: InMemory,
+    core: CopyCore,
+    log: Begun,
 ) -> Vb<D>
-    requires whole { (content : contents.Content) × IsWhole content × AreInMemory store.meta content parts.core parts.recent parts.flushed }
-    ensures { result ≡ vb_begun store number is_anew parts.core parts.recent parts.flushed }
+    requires core { core ≡ core_at store.meta log.content.length }
+    requires whole { IsWhole log.content }
+    ensures { result ≡ vb_begun store number log.is_anew core log.content }
 {
-    let InMemory {
-        core,
-        recent,
-        flushed,
-    } = parts;
     let inherited = core.length;
+    let showing = if log.is_anew { 0 } else { store.weight() };
     Vb {
         alloc,
         store,
         core,
         number,
-        recent,
-        flushed,
-        is_anew,
+        recent: log.content,
+        showing,
+        is_anew: log.is_anew,
         seen: 0,
         inherited,
         unflushed_entries: 0,
@@ -252,30 +209,20 @@ fn put_first<D: Disk>(vb: Vb<D>) -> (Result<Vb<D>, StoreFault>, Option<D>)
     }
 }
 
-/// The numbers of an active copy at the term of the next round, its content without the items, and what these count.
-fn in_memory(alloc: Global, meta: &Meta, content: &Content) -> Result<InMemory, NoMemory>
-    requires numbers { meta.now.accepted + 4 < 2 ^ 64 }
-    requires whole { IsWhole content.now }
-    ensures { IfOk result (λ p. AreInMemory meta.now content.now p.core p.recent p.flushed) }
+/// The numbers of an active copy at the term of the next round.
+fn core_of(alloc: Global, meta: &Meta, length: u64) -> Result<CopyCore, NoMemory>
+    requires { meta.now.accepted + 4 < 2 ^ 64 }
+    ensures { IfOk result (λ core. core ≡ core_at meta.now length) }
 {
     let term = meta.accepted + NEXT_ROUND;
-    let core = CopyCore {
+    Ok(CopyCore {
         chain: meta.chain.copy(alloc)?,
         place: meta.place,
         role: Role::Active,
         promise: term,
         accepted: term,
-        length: length(content),
+        length,
         whole: true,
         incarnation: meta.incarnation,
-    };
-    let recent = emptied(alloc, content)?;
-    let items = by_position(alloc, content)?;
-    let mut flushed = Flushed::new(alloc);
-    note(alloc, &mut flushed, items.as_slice())?;
-    Ok(InMemory {
-        core,
-        recent,
-        flushed,
     })
 }

@@ -1,9 +1,7 @@
 //! How the log is put on disk.
 
-ghost use Rattle.std.specs.Prelude.{◌≡◌, ◌↔◌, ◌<◌, ◌^◌, ℕ, [], length, None, map as list_map, IsTrue, IfOk, IfErr, OnOk, OnErr, IsErrOf};
+ghost use Rattle.std.specs.Prelude.{◌≡◌, ◌↔◌, ◌<◌, ◌^◌, ℕ, false, [], length, IsTrue, IfOk, IfErr, OnOk, IsErrOf};
 ghost use Rattle.std.specs.FinMap as map;
-ghost use Rattle.std.specs.List.{AllByRecursion};
-ghost use Rattle.doc_model.specs.declared.document.Item.{Item};
 ghost use Rattle.copy_model.specs.Copies.{Copy};
 ghost use Rattle.copy_model.specs.Events.{flushes};
 ghost use Rattle.manifest_rules.specs.State.{is_kept};
@@ -12,20 +10,16 @@ ghost use Rattle.magma_store.specs.Changes.{AreNumbers};
 ghost use Rattle.magma_store.specs.Counting.{CountsStore};
 ghost use Rattle.magma_store.specs.Held.{numbers_of};
 ghost use Rattle.vb_log.specs.Content as contents;
-ghost use Rattle.vb_log.specs.Held.{item_weight};
 ghost use Rattle.vb_log.specs.Logs.{folds};
-ghost use Rattle.vb_log.specs.Stored.{IsStorable};
 ghost use Rattle.vb_core.specs.Coming.{Comes, Rests, IsFlushFault};
 ghost use Rattle.vb_core.specs.Flat.{flat, tail_of};
 ghost use Rattle.vb_core.specs.Means.{IsCopy, Stands};
-ghost use Rattle.vb_core.specs.Noting.{forgotten, stopped_at, Notes, PutsDown, fault_told};
+ghost use Rattle.vb_core.specs.Noting.{stopped_at, PutsDown, fault_told};
 ghost use Rattle.vb_core.specs.Putting.{IsMetaOf, Puts, IsPutFault};
 ghost use Rattle.vb_core.specs.Shown.{AreStorable};
 
-use crate::flushed::Flushed;
 use crate::vbucket::Vb;
 use copy_model::VbFault;
-use doc_model::Item;
 use kv_edge::{Bytes, Copied, NoMemory};
 use magma_disk::Disk;
 use magma_store::{Meta, Store, StoreFault};
@@ -33,7 +27,7 @@ use manifest_rules::state_into;
 use replica_core::Role;
 use std::alloc::Global;
 use vb_log::{
-    Content, by_position, emptied, greatest_cas, length, manifest, pending_into, prepares, weight,
+    Content, by_position, emptied, greatest_cas, length, manifest, pending_into, prepares,
 };
 
 /// How many bytes the tail of what is put on disk has at most.
@@ -70,6 +64,7 @@ impl<D: Disk> Vb<D> {
     pub(crate) fn put_log(&mut self) -> Result<(), StoreFault>
         ensures puts { (copy : Copy contents.Content ℕ) → Stands D.states self.old copy → Puts D.states D.counts copy self.old self.new result }
         ensures recent { OnOk result (self.new.recent ≡ record self.old.recent { items = map.empty }) }
+        ensures anew { OnOk result (self.new.is_anew ≡ false) }
         ensures why { IfErr result IsPutFault }
         ensures silent { D.states self.old.store.disk ≡ [] → D.states self.new.store.disk ≡ [] }
         ensures stays { result ≡ Err StoreFault.NoMemory → Rests D.states self.old self.new }
@@ -80,7 +75,6 @@ impl<D: Disk> Vb<D> {
         let written = put(
             self.alloc,
             &mut self.store,
-            &mut self.flushed,
             &self.recent,
             self.is_anew,
             meta,
@@ -88,6 +82,7 @@ impl<D: Disk> Vb<D> {
         match written {
             Ok(()) => {
                 self.recent = left;
+                self.showing = self.store.weight();
                 self.is_anew = false;
                 self.unflushed_entries = 0;
                 self.unflushed_bytes = 0;
@@ -133,11 +128,10 @@ impl<D: Disk> Vb<D> {
     }
 }
 
-/// Puts the items in memory on disk, in rising order of their positions, and notes what they count. At `Err` nothing is noted.
+/// Puts the items in memory on disk, in rising order of their positions.
 fn put<D: Disk>(
     alloc: Global,
     store: &mut Store<D>,
-    flushed: &mut Flushed,
     recent: &Content,
     is_anew: bool,
     meta: Meta,
@@ -148,7 +142,7 @@ fn put<D: Disk>(
     requires short { length meta.tail < 2 ^ 32 }
     requires numbers { AreNumbers (numbers_of meta) }
     requires items { AreStorable recent.now.items }
-    ensures puts { PutsDown D.states is_anew recent.now meta flushed.old flushed.new store.old store.new result }
+    ensures puts { PutsDown D.states is_anew recent.now meta store.old store.new result }
     ensures meta { OnOk result (store.new.meta ≡ meta) }
     ensures own { (store.new.meta.chain ≡ store.old.meta.chain) × (store.new.meta.place ≡ store.old.meta.place) }
     ensures silent { D.states store.old.disk ≡ [] → D.states store.new.disk ≡ [] }
@@ -158,52 +152,7 @@ fn put<D: Disk>(
     if items.len() > ITEM_LIMIT {
         return Err(StoreFault::NoMemory);
     }
-    note(alloc, flushed, items.as_slice())?;
-    let written = store.write(is_anew, items.as_slice(), meta);
-    if written.is_err() {
-        forget(flushed, items.as_slice());
-    }
-    written
-}
-
-/// Notes what items count of which nothing was noted. At `Err` all is as before.
-pub(crate) fn note(alloc: Global, flushed: &mut Flushed, items: &[&Item]) -> Result<(), NoMemory>
-    requires { AllByRecursion IsStorable (list_map (λ i. i.now) items.now) }
-    ensures ok { OnOk result (Notes flushed.old (list_map (λ i. i.now) items.now) flushed.new) }
-    ensures err { OnErr result (flushed.new ≡ flushed.old) }
-{
-    let mut count = 0;
-    for item in items {
-        if let Err(refused) = note_one(alloc, flushed, item) {
-            let (done, _) = items.split_at(count);
-            forget(flushed, done);
-            return Err(refused);
-        }
-        count += 1;
-    }
-    Ok(())
-}
-
-/// Notes what an item counts. At `Err` all is as before; it also comes where something was noted of its key.
-fn note_one(alloc: Global, flushed: &mut Flushed, item: &Item) -> Result<(), NoMemory>
-    requires { IsStorable item.now }
-    ensures ok { OnOk result (flushed.new ≡ map.insert flushed.old item.now.key (item_weight item.now)) }
-    ensures new { OnOk result (map.get flushed.old item.now.key ≡ None) }
-    ensures err { OnErr result (flushed.new ≡ flushed.old) }
-{
-    if flushed.has(&item.key) {
-        return Err(NoMemory);
-    }
-    flushed.add(alloc, &item.key, weight(item))
-}
-
-/// Forgets what items count.
-fn forget(flushed: &mut Flushed, items: &[&Item])
-    ensures { flushed.new ≡ forgotten flushed.old (list_map (λ i. i.now) items.now) }
-{
-    for item in items {
-        flushed.remove(&item.key);
-    }
+    store.write(is_anew, items.as_slice(), meta)
 }
 
 /// The fault of a vbucket whose store has one.

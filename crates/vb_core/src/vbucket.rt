@@ -9,7 +9,6 @@ ghost use Rattle.vb_core.specs.Openings.{IsAllOnDisk, HoldsSound};
 ghost use Rattle.vb_core.specs.Pairs.{HoldsOf};
 ghost use Rattle.vb_log.specs.Content as contents;
 
-use crate::flushed::Flushed;
 use magma_disk::Disk;
 use magma_store::Store;
 use manifest_rules::Manifest;
@@ -18,7 +17,7 @@ use std::alloc::Global;
 use std::marker::Model;
 use vb_log::{Content, manifest};
 
-/// A vbucket on a disk. Of an item on disk it keeps its key and how much it counts, and reads the rest when it is asked for.
+/// A vbucket on a disk. Of the items on disk it keeps how much they count, and reads one when it is asked for.
 ///
 /// Contracts see the parts of it, and say which copy these are (`specs/Means.antt`).
 #[derive(Drop)]
@@ -30,7 +29,9 @@ pub struct Vb<D: Disk> {
     pub(crate) number: u16,
     /// What the log comes to, but of the items only those that aren't on disk.
     pub(crate) recent: Content,
-    pub(crate) flushed: Flushed,
+    /// How much the items on disk count together that still show: none where the log was begun anew, else those of keys that
+    /// weren't changed since, in collections that weren't dropped.
+    pub(crate) showing: u64,
     /// Whether the log was begun anew, and nothing of what is on disk counts.
     pub(crate) is_anew: bool,
     /// The greatest moment seen, in milliseconds since 1970, at most `LAST_MOMENT`.
@@ -43,8 +44,6 @@ pub struct Vb<D: Disk> {
 }
 
 impl<D: Disk> Model for Vb<D> {
-    ghost use Rattle.std.specs.Coded.{coded_ℕ};
-    ghost use Rattle.std.specs.FinMap as map;
     ghost use Rattle.doc_model.specs.Keys.{coded_key};
     ghost use Rattle.magma_store.specs.contracts.spot.Spot as spot_rows;
     ghost use Rattle.magma_store.specs.contracts.meta.Meta as meta_rows;
@@ -55,11 +54,11 @@ impl<D: Disk> Model for Vb<D> {
 
     ghost Value = { ShownVb D };
 
-    ghost coded = { coded_vb (coded_store D.code spot_rows.the_row.coded coded_key meta_rows.the_row.coded) core_rows.the_row.coded content_rows.the_row.coded (map.code coded_key coded_ℕ) };
+    ghost coded = { coded_vb (coded_store D.code spot_rows.the_row.coded coded_key meta_rows.the_row.coded) core_rows.the_row.coded content_rows.the_row.coded };
 
-    ghost view = { λ vb. record { store = vb.store; core = vb.core; number = vb.number; recent = vb.recent; flushed = vb.flushed; is_anew = vb.is_anew; seen = vb.seen; inherited = vb.inherited; unflushed_entries = vb.unflushed_entries; unflushed_bytes = vb.unflushed_bytes } };
+    ghost view = { λ vb. record { store = vb.store; core = vb.core; number = vb.number; recent = vb.recent; showing = vb.showing; is_anew = vb.is_anew; seen = vb.seen; inherited = vb.inherited; unflushed_entries = vb.unflushed_entries; unflushed_bytes = vb.unflushed_bytes } };
 
-    ghost invariant = { λ vb. IsFit vb.store.meta vb.core vb.recent vb.flushed vb.seen };
+    ghost invariant = { λ vb. IsFit vb.store.meta vb.core vb.recent vb.seen };
 }
 
 impl<D: Disk> Vb<D> {

@@ -1,6 +1,4 @@
-use Rattle.std.proofs.Common.{rules, ◌≡◌, ◌+◌, ◌≤◌, ◌<◌, ◌/◌, arith, ap, ◌∙◌, Some, List, [], length}
-use Rattle.doc_model.specs.declared.document.Item.{Item}
-use Rattle.magma_store.specs.Gotten.{Stands}
+use Rattle.std.proofs.Common.{arith, ap, ◌∙◌, Some, []}
 use Rattle.magma_store.proofs.Gotten.{read_there, few_pieces}
 use Rattle.magma_store.proofs.getting.item_at.Goals as goal
 

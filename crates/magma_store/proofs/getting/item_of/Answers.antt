@@ -1,4 +1,3 @@
-use Rattle.std.proofs.Common.{rules, ◌≡◌}
 use Rattle.magma_store.proofs.getting.item_of.Goals as goal
 
 -- src/getting.rt:46:1

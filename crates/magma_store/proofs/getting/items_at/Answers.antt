@@ -1,4 +1,4 @@
-use Rattle.std.proofs.Common.{rules, ◌≡◌, ◌∙◌, ◌++◌, ◌∷◌, [], sym, ap, subst, arith}
+use Rattle.std.proofs.Common.{◌∙◌, ◌++◌, ◌∷◌, [], sym, ap, subst, arith}
 use Rattle.magma_store.proofs.Counts.{counts_on, counts_fewer}
 use Rattle.magma_store.specs.Gotten.{Stands}
 use Rattle.magma_store.proofs.Gotten.{stand_next, stand_all}
@@ -11,7 +11,7 @@ loop-spot-preserved g c = (
   counts_fewer _ _ (λ (never : ⊥). absurd never) (counts_on _ _ _ c.loop-spot.invariant.1 c.add_item.ensures.counts),
   c.in_ok-add_item.ensures.storable c.loop-spot.invariant.2,
   λ items all.
-      let n = stand_next c.args.spots.now items (g.D.Disk.states c.args.disk.now) all c.loop-spot.spot-index (omega arith) (record { seqno = 0; at = 0; length = 0 }) in
+      let n = stand_next c.args.spots.now items (g.D.Disk.states c.args.disk.now) all c.loop-spot.spot-index (omega arith) (record { seqno = 0; at = 0; length = 0; weight = 0; cas = 0 }) in
       c.in_ok-add_item.ensures.added n.item (subst (Stands _ n.item) (sym c.loop-spot.invariant.0) n.stands)
       ∙ ap (λ l. l ++ n.item ∷ []) (c.loop-spot.invariant.3 items all) ∙ sym n.more,
 )

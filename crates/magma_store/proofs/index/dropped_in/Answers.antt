@@ -1,16 +1,13 @@
-use Rattle.std.proofs.Common.{◌≡◌, inr, drop, sym, subst}
-use Rattle.std.specs.List.Sorted.{IsNonDecreasing}
-use Rattle.manifest_rules.specs.State.{IsNoState}
+use Rattle.std.proofs.Common.{◌≡◌, IsTrue, List, ℕ, inr, drop, sym, subst}
+use Rattle.manifest_rules.specs.State.{IsNoState, are_rising}
 use Rattle.manifest_rules.specs.declared.state.StateFault.{StateFault}
-use Rattle.manifest_rules.proofs.Rising.{rising_sorted}
 use Rattle.magma_store.proofs.index.dropped_in.Goals as goal
 
 pub returns-in_ok-to_vec-in-Ok-clause-rise : goal.returns-in_ok-to_vec-in-Ok-clause-rise
 returns-in_ok-to_vec-in-Ok-clause-rise c =
     let same : c.in_ok-to_vec-in-Ok.field-0.items ≡ c.dropped_collections.result.now =
     c.in_ok-to_vec-in-Ok.ensures.items_if_clones_equal (λ x y e. e) in
-    subst IsNonDecreasing (sym same)
-    (rising_sorted c.dropped_collections.result.now c.dropped_collections.ensures.rising)
+    subst (λ (ids : List ℕ). IsTrue (are_rising ids)) (sym same) c.dropped_collections.ensures.rising
 
 pub returns-in-Err-Bad-clause-dropped : goal.returns-in-Err-Bad-clause-dropped
 returns-in-Err-Bad-clause-dropped c =

@@ -1,4 +1,4 @@
-use Rattle.std.proofs.Common.{◌≡◌, ◌≤◌, Some, None, Err, List, ℕ, drop, option_map, refl, sym, ◌∙◌, ap, subst, arith}
+use Rattle.std.proofs.Common.{Err, drop, option_map, refl, sym, ◌∙◌, ap, subst, arith}
 use Rattle.magma_store.specs.Journal.{IsFile, IsNext}
 use Rattle.magma_store.specs.Loading.{IsUnloaded}
 use Rattle.magma_store.specs.Spots.{AllLead}

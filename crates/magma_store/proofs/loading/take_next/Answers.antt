@@ -1,4 +1,4 @@
-use Rattle.std.proofs.Common.{◌≡◌, ◌+◌, ◌-◌, ◌≤◌, List, ℕ, length, subst, arith}
+use Rattle.std.proofs.Common.{◌+◌, ◌-◌, ◌≤◌, length, subst, arith}
 use Rattle.magma_store.specs.Forms.{IsBroken, next_form}
 use Rattle.magma_store.specs.Taking.{BreaksWithin}
 use Rattle.magma_store.proofs.Takings.{read_broken}

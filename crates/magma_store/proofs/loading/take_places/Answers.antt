@@ -1,5 +1,5 @@
-use Rattle.std.proofs.Common.{◌≡◌, List, ℕ, sym, ◌∙◌, ap, subst}
-use Rattle.std.specs.List.Sorted.{IsNonDecreasing}
+use Rattle.std.proofs.Common.{◌≡◌, IsTrue, List, ℕ, sym, ◌∙◌, ap, subst}
+use Rattle.manifest_rules.specs.State.{are_rising}
 use Rattle.std.specs.FinMap as map
 use Rattle.std.proofs.lemmas.Result.{IfOk-weaker}
 use Rattle.doc_model.specs.Keys.{is_in}
@@ -9,7 +9,7 @@ use Rattle.magma_store.proofs.loading.take_places.Goals as goal
 use Rattle.magma_store.proofs.loading.take_places.Goals.{then-is_anew, else-is_anew}
 
 pub remove_collections-requires : goal.remove_collections-requires
-remove_collections-requires c = subst IsNonDecreasing (sym c.deref.ensures.value) c.in_ok-dropped.ensures.rise
+remove_collections-requires c = subst (λ (ids : List ℕ). IsTrue (are_rising ids)) (sym c.deref.ensures.value) c.in_ok-dropped.ensures.rise
 
 pub returns : goal.returns
 returns c =

@@ -1,4 +1,4 @@
-use Rattle.std.proofs.Common.{◌≡◌, ◌+◌, Some, None, List, ℕ, length, refl, sym, ◌∙◌, ap, subst}
+use Rattle.std.proofs.Common.{◌+◌, Some, length, refl, sym, ◌∙◌, ap, subst}
 use Rattle.magma_store.specs.declared.loading.Loaded.{Loaded}
 use Rattle.magma_store.specs.Forms.{made_form, change_form}
 use Rattle.magma_store.specs.Spots.{AllLead}

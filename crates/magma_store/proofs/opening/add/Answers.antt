@@ -1,4 +1,4 @@
-use Rattle.std.proofs.Common.{◌≡◌, ◌⊎◌, ◌++◌, ◌∷◌, [], inl, List, ℕ, refl}
+use Rattle.std.proofs.Common.{◌⊎◌, ◌++◌, ◌∷◌, [], inl, List, ℕ, refl}
 use Rattle.magma_disk.proofs.Moments.{weaker, onward}
 use Rattle.magma_store.specs.Journal.{IsJournal}
 use Rattle.magma_store.proofs.opening.add.Goals as goal

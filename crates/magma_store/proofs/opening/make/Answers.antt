@@ -1,4 +1,4 @@
-use Rattle.std.proofs.Common.{◌≡◌, ◌+◌, ◌<◌, ◌≤◌, ◌^◌, [], length, refl, sym, ◌∙◌, ap, subst, arith}
+use Rattle.std.proofs.Common.{◌≡◌, ◌+◌, ◌<◌, ◌^◌, [], length, refl, sym, ◌∙◌, ap, subst, arith}
 use Rattle.durability_core.specs.declared.chain.Chain.{Chain}
 use Rattle.magma_store.specs.Changes.{made_bytes}
 use Rattle.magma_store.specs.Held.{first_held}

@@ -1,4 +1,4 @@
-use Rattle.std.proofs.Common.{◌≡◌, ◌+◌, ◌<◌, ◌≤◌, ◌^◌, length, refl, sym, ◌∙◌, ap, subst, arith}
+use Rattle.std.proofs.Common.{◌≡◌, ◌+◌, length, refl, ◌∙◌, ap, subst, arith}
 use Rattle.magma_store.specs.declared.meta.Numbers.{Numbers}
 use Rattle.magma_store.specs.Changes.{Sets, AreWords, IsChange, change_bytes}
 use Rattle.magma_store.specs.Held.{numbers_of}

@@ -1,4 +1,4 @@
-use Rattle.std.proofs.Common.{◌≡◌, true, sym, ◌∙◌, ap, subst}
+use Rattle.std.proofs.Common.{◌≡◌, true, sym, ◌∙◌, subst}
 use Rattle.durability_core.specs.declared.chain.Chain.{Chain}
 use Rattle.magma_store.proofs.SameChains.{same_names, names_same, names_refl}
 use Rattle.magma_store.proofs.opening.same_chain.Goals as goal

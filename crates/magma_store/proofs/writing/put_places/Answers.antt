@@ -1,11 +1,22 @@
-use Rattle.std.proofs.Common.{◌≡◌, List, ℕ, not, sym, ◌∙◌, ap, subst}
+use Rattle.std.proofs.Common.{not, sym, ◌∙◌, ap, arith}
 use Rattle.std.specs.FinMap as map
 use Rattle.doc_model.specs.Keys.{is_in}
 use Rattle.magma_store.specs.Room.{with_found}
-use Rattle.magma_store.specs.Spots.{with_spots, with_room}
+use Rattle.magma_store.specs.Spots.{with_spots, spots_size}
 use Rattle.magma_store.specs.Taking.{spots_left}
 use Rattle.magma_store.proofs.Room.{room_written}
+use Rattle.magma_store.proofs.Weights.{size_room, others_sized}
 use Rattle.magma_store.proofs.writing.put_places.Goals as goal
+
+pub place_all-requires : goal.place_all-requires
+place_all-requires c =
+    let spots = c.args.spots.now in
+    let dropped = c.args.dropped.now in
+    let room = size_room spots c.args.places.now in
+    let made = ap spots_size c.in_ok-make_room.ensures.ok in
+    let left = others_sized c.make_room.new.spots dropped in
+    let kept = ap spots_size c.remove_collections.ensures in
+    omega (arith, c.in_ok-check_size.ensures)
 
 pub returns-clause-ok : goal.returns-clause-ok
 returns-clause-ok c =

@@ -1,6 +1,5 @@
-use Rattle.std.proofs.Common.{rules, ◌≡◌, ◌∙◌, ◌+◌, ◌≤◌, sym, subst}
+use Rattle.std.proofs.Common.{rules, ◌+◌, ◌≤◌, sym, subst}
 use Rattle.magma_store.specs.Gotten.{Stands}
-use Rattle.magma_store.specs.Store.{Shown}
 use Rattle.magma_store.proofs.Gotten.{leads_to}
 use Rattle.magma_store.proofs.store.Store.get.Goals as goal
 

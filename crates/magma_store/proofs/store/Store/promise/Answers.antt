@@ -1,9 +1,9 @@
-use Rattle.std.proofs.Common.{◌≡◌, ℕ, ◌+◌, ◌++◌, ◌∷◌, [], length, refl, sym, ◌∙◌, ap, subst, arith}
+use Rattle.std.proofs.Common.{◌≡◌, ℕ, ◌+◌, length, refl, sym, ◌∙◌, ap, subst, arith}
 use Rattle.std.proofs.lemmas.Result.{IfOk-weaker}
 use Rattle.magma_disk.specs.Moments.{Throughout}
 use Rattle.magma_store.specs.declared.meta.Meta.{Meta}
 use Rattle.magma_store.specs.declared.meta.Numbers.{Numbers}
-use Rattle.magma_store.specs.Changes.{Sets, AreNumbers, AreWords, IsChange, change_bytes}
+use Rattle.magma_store.specs.Changes.{Sets, AreNumbers, AreWords, change_bytes}
 use Rattle.magma_store.specs.Held.{numbers_of}
 use Rattle.magma_store.specs.Journal.{piece_bytes}
 use Rattle.magma_store.specs.Layout.{sets_size, LaysNumbers}

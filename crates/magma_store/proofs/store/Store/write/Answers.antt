@@ -1,8 +1,7 @@
-use Rattle.std.proofs.Common.{◌≡◌, ℕ, List, ◌+◌, ◌<◌, ◌≤◌, ◌^◌, ◌++◌, ◌∷◌, [], length, map as list_map, inl, refl, sym, ◌∙◌, ap, subst, arith}
-use Rattle.std.specs.List.Sorted.{IsNonDecreasing}
+use Rattle.std.proofs.Common.{◌≡◌, IsTrue, ℕ, List, ◌+◌, ◌<◌, ◌≤◌, ◌^◌, length, map as list_map, inl, refl, sym, ◌∙◌, ap, subst, arith}
+use Rattle.manifest_rules.specs.State.{are_rising}
 use Rattle.std.proofs.lemmas.Result.{IfOk-weaker, IfErr-weaker}
 use Rattle.magma_disk.specs.Moments.{Throughout}
-use Rattle.magma_store.specs.declared.fault.StoreFault.{StoreFault}
 use Rattle.magma_store.specs.declared.meta.Meta.{Meta}
 use Rattle.magma_store.specs.declared.meta.Numbers.{Numbers}
 use Rattle.magma_store.specs.declared.spot.Placed.{Placed}
@@ -67,7 +66,7 @@ returns-then-needed-free-clause-refused g c =
     (refl, needed, left, omega arith)
 
 pub put_places-requires-clause-rise : goal.put_places-requires-clause-rise
-put_places-requires-clause-rise g c = subst IsNonDecreasing (sym c.deref.ensures.value) c.in_ok-dropped.ensures.rise
+put_places-requires-clause-rise g c = subst (λ (ids : List ℕ). IsTrue (are_rising ids)) (sym c.deref.ensures.value) c.in_ok-dropped.ensures.rise
 
 pub put_places-requires-clause-apart : goal.put_places-requires-clause-apart
 put_places-requires-clause-apart g c =

@@ -10,8 +10,8 @@ invariant_of-self-2 g c =
     let old = c.self.inside in
     let key = option_copied c.args.key in
     let dropped = c.args.dropped.now in
-    fit_grown old.store.meta old.core old.recent c.add_within.new.content old.flushed c.cover.new.flushed old.seen
+    fit_grown old.store.meta old.core old.recent c.add_within.new.content old.seen
     c.length-self-inside.result c.args.entry key dropped
     c.self.invariant c.requires.entry
     (subst (λ (v : ShownVb g.row.D.Denot). Covers v.recent.manifest c.args.entry key dropped) (sym c.self.view_is) c.requires.covers)
-    c.in_ok-add_within.ensures.room c.length-self-inside.ensures c.in_ok-add_within.ensures.ok c.cover.ensures
+    c.in_ok-add_within.ensures.room c.length-self-inside.ensures c.in_ok-add_within.ensures.ok

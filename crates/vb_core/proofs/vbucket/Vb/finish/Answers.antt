@@ -9,7 +9,7 @@ returns-clause-leaves g c = λ copy is image left.
     let V = ShownVb g.row.D.Denot in
     let states = g.D.Disk.states in
     let vb : V = c.args.self in
-    let fit : IsFit vb.store.meta vb.core vb.recent vb.flushed vb.seen = subst (λ (v : V). IsFit v.store.meta v.core v.recent v.flushed v.seen) c.self.view_is c.self.invariant in
+    let fit : IsFit vb.store.meta vb.core vb.recent vb.seen = subst (λ (v : V). IsFit v.store.meta v.core v.recent v.seen) c.self.view_is c.self.invariant in
     copy_leaves states vb copy fit is image
     (subst (λ (d : g.row.D.Denot). MayLeave (states d) image) (c.finish.ensures ∙ ap (λ (v : V). v.store.disk) c.self.view_is) left)
 
@@ -18,6 +18,6 @@ returns-clause-sound g c = λ copy lives all image left.
     let V = ShownVb g.row.D.Denot in
     let states = g.D.Disk.states in
     let vb : V = c.args.self in
-    let fit : IsFit vb.store.meta vb.core vb.recent vb.flushed vb.seen = subst (λ (v : V). IsFit v.store.meta v.core v.recent v.flushed v.seen) c.self.view_is c.self.invariant in
+    let fit : IsFit vb.store.meta vb.core vb.recent vb.seen = subst (λ (v : V). IsFit v.store.meta v.core v.recent v.seen) c.self.view_is c.self.invariant in
     all_leaves states vb copy fit lives all image
     (subst (λ (d : g.row.D.Denot). MayLeave (states d) image) (c.finish.ensures ∙ ap (λ (v : V). v.store.disk) c.self.view_is) left)

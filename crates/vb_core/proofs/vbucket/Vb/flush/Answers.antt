@@ -20,7 +20,7 @@ pub returns-then-eq-clause-flushes : goal.returns-then-eq-clause-flushes
 returns-then-eq-clause-flushes g c = λ copy is.
     let V = ShownVb g.row.D.Denot in
     let old : V = c.args.self.now in
-    let fit : IsFit old.store.meta old.core old.recent old.flushed old.seen = subst (λ (v : V). IsFit v.store.meta v.core v.recent v.flushed v.seen) c.self.view_is c.self.invariant in
+    let fit : IsFit old.store.meta old.core old.recent old.seen = subst (λ (v : V). IsFit v.store.meta v.core v.recent v.seen) c.self.view_is c.self.invariant in
     let role : c.self.inside.core.role ≡ roles.Dead = same_true the_type (search rules) _ _ (sym c.if-eq.ensures) in
     let dead : old.core.role ≡ roles.Dead = sym (ap (λ (v : V). v.core.role) c.self.view_is) ∙ role in
     dead_comes g.D.Disk.states g.D.Disk.counts copy old is (sym (role_of g.D.Disk.states old copy is) ∙ dead) fit
@@ -33,7 +33,7 @@ returns-clause-flushes g c = λ copy is.
     let old : V = c.args.self.now in
     let new : V = c.put_log.new.self in
     let r : Result (Unit {0}) StoreFault = c.put_log.result in
-    let fit : IsFit old.store.meta old.core old.recent old.flushed old.seen = subst (λ (v : V). IsFit v.store.meta v.core v.recent v.flushed v.seen) c.self.view_is c.self.invariant in
+    let fit : IsFit old.store.meta old.core old.recent old.seen = subst (λ (v : V). IsFit v.store.meta v.core v.recent v.seen) c.self.view_is c.self.invariant in
     let living : old.core.role ≡ roles.Dead → ⊥ = λ dead.
     let same : sameb the_type c.self.inside.core.role roles.Dead ≡ true = ap (λ (x : Role). sameb the_type x roles.Dead) (ap (λ (v : V). v.core.role) c.self.view_is ∙ dead) in
     let differs : false ≡ sameb the_type c.self.inside.core.role roles.Dead = c.if-eq.ensures in

@@ -1,19 +1,19 @@
 use Rattle.std.specs.Option.{option_copied}
 use Rattle.std.specs.FinMap as map
-use Rattle.std.specs.Prelude.{Err, Ok}
+use Rattle.std.specs.Prelude.{Err, Ok, ◌-◌}
 use Rattle.std.proofs.Common.{◌≡◌, true, sym, ◌∙◌, ap, subst}
 use Rattle.magma_disk.specs.Counting.{Counts}
 use Rattle.magma_store.specs.Counting.{CountsStore}
 use Rattle.magma_store.specs.declared.fault.StoreFault.{StoreFault}
 use Rattle.vb_log.specs.Content.{Content, allowed}
-use Rattle.vb_core.specs.Covering.{CanCount, grown}
+use Rattle.vb_core.specs.Covering.{covered_size, CanCount, grown}
 use Rattle.vb_core.specs.Plans.{IsAtHome}
 use Rattle.vb_core.specs.Making.{Covers, Makes}
 use Rattle.vb_core.specs.Putting.{Puts}
 use Rattle.vb_core.specs.Shown.{ShownVb}
 use Rattle.vb_core.specs.declared.making.Made.TheVariants as made
 use Rattle.vb_core.proofs.Lasting.{fit_grown}
-use Rattle.vb_core.proofs.Changed.{allowed_alike, Emptied, emptied_after, emptied_covers, emptied_short, grown_is, counts_anyhow, put_counts, adds_behind, refused_full, refused_failed}
+use Rattle.vb_core.proofs.Changed.{allowed_alike, Emptied, emptied_after, emptied_covers, emptied_short, grown_is, all_behind, counts_anyhow, put_counts, adds_behind, refused_full, refused_failed}
 use Rattle.vb_core.proofs.vbucket.Vb.put_and_make.Goals as goal
 
 -- a content without its items
@@ -51,10 +51,10 @@ invariant_of-self g c =
       added = c.in_ok-add_within.ensures.ok;
       left = ap (λ (v : ShownVb D). v.recent) c.self-2.view_is ∙ c.in-Ok.ensures.recent;
     } in
-    fit_grown mid.store.meta mid.core mid.recent c.add_within.new.content mid.flushed c.cover.new.flushed mid.seen c.length-self-inside.result e key dropped
+    fit_grown mid.store.meta mid.core mid.recent c.add_within.new.content mid.seen c.length-self-inside.result e key dropped
     c.self-2.invariant c.requires.entry (emptied_covers key dropped then c.requires.covers)
     (emptied_short then c.in_ok-add_within.ensures.room)
-    c.length-self-inside.ensures (emptied_after then) c.cover.ensures
+    c.length-self-inside.ensures (emptied_after then)
 
 pub returns-clause-made : goal.returns-clause-made
 returns-clause-made g c = λ copy cas l first.
@@ -74,7 +74,7 @@ returns-clause-made g c = λ copy cas l first.
       core = i.core;
       number = i.number;
       recent = i.recent;
-      flushed = i.flushed;
+      showing = i.showing;
       is_anew = i.is_anew;
       seen = i.seen;
       inherited = i.inherited;
@@ -88,10 +88,14 @@ returns-clause-made g c = λ copy cas l first.
       left = ap (λ (v : ShownVb D). v.recent) view ∙ c.in-Ok.ensures.recent;
     } in
     let may : CanCount seen = subst (λ (v : ShownVb D). CanCount v) (sym view) (put_counts states copy old mid tt counts puts) in
+    let none : mid.recent.items ≡ map.empty = ap (λ (x : Content). x.items) c.in-Ok.ensures.recent in
+    let less : c.saturating_sub-self-inside.result ≡ seen.showing - covered_size seen key dropped =
+    c.saturating_sub-self-inside.ensures ∙ ap (λ n. seen.showing - n) (c.on_disk-covered.ensures ∙ all_behind mid key dropped c.in-Ok.ensures.anew none
+    ∙ ap (λ (v : ShownVb D). covered_size v key dropped) (sym view)) in
     let is : new ≡ grown e key dropped mid =
     c.count.ensures.counted (record { entries = may.entries; bytes = may.bytes }) c.spelt_length-bytes.ensures.fits
-    ∙ grown_is seen c.add_within.new.content c.cover.new.flushed c.length-self-inside.result c.spelt_length-bytes.result e key dropped
-    c.length-self-inside.ensures (emptied_after then) c.cover.ensures c.spelt_length-bytes.ensures.value
+    ∙ grown_is seen c.add_within.new.content c.saturating_sub-self-inside.result c.length-self-inside.result c.spelt_length-bytes.result e key dropped
+    c.length-self-inside.ensures (emptied_after then) less c.spelt_length-bytes.ensures.value
     ∙ ap (λ (v : ShownVb D). grown e key dropped v) view in
     let covered = subst (λ (v : ShownVb D). Covers v.recent.manifest e key dropped) view
     (emptied_covers key dropped then c.requires.covers) in

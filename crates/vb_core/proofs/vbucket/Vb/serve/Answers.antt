@@ -5,6 +5,7 @@ use Rattle.std.proofs.lemmas.Result.{IfOk-weaker}
 use Rattle.copy_model.specs.declared.outcome.Outcome.TheVariants as outcomes
 use Rattle.vb_core.specs.Shown.{ShownVb}
 use Rattle.vb_core.proofs.Rested.{home_of, home_rests, lives_rest}
+use Rattle.vb_core.proofs.Entered.{entered_there}
 use Rattle.vb_core.proofs.Answered.{effect_comes, refused_comes}
 use Rattle.vb_core.proofs.vbucket.Vb.serve.Goals as goal
 
@@ -47,3 +48,6 @@ returns-in-Err-Status-clause-served g c = λ copy lives.
 pub effect-requires-clause-home : goal.effect-requires-clause-home
 effect-requires-clause-home g c = home_rests g.D.Disk.states c.args.self.now c.plan_on.new.self c.in-Ok.ensures.rests
     (home_of _ c.args.self.now c.self.view_is c.self.invariant)
+
+pub plan_on-requires-clause-there : goal.plan_on-requires-clause-there
+plan_on-requires-clause-there g c = entered_there c.args.self.now c.args.request.now c.args.key.now c.requires.early
