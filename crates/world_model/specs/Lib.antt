@@ -2,3 +2,8 @@
 pub mod Worlds
 pub mod Terms
 pub mod Folded
+pub mod Facts
+pub mod Replays
+pub mod Connections
+pub mod Scripts
+pub mod Laws

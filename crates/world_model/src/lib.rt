@@ -20,10 +20,23 @@
 //! (`specs/Terms.antt`, `term_of`). A durable write that was prepared in a term stands in another
 //! when the other's base has it with all before it, and the other's lead has no Abort of it
 //! (`Stands`).
+//! # Reports
+//!
+//! A script tells events in lines (`kv_script`). What each line does to the world and to the
+//! connections of its copies, and what it tells, is one relation (`specs/Scripts.antt`, `LineDoes`),
+//! and so is the report of a whole script (`Reports`): it leaves open what a disk, a crash and a want of
+//! memory leave open, and nothing else. Behind each event the clients that wait are polled, and then the
+//! copy's connections go on, the first first, as long as one can (`specs/Connections.antt`,
+//! `GoesOn`). Facts are data; `specs/Facts.antt` has their text.
+//!
+//! That a write which was answered Success stands in each later term is a statement here
+//! (`specs/Laws.antt`, `DurablePrefix`); it isn't proved yet.
 #![tactic(auto)]
 
 mod laws;
+mod reports;
 
 pub use laws::{
     bases_stay, copies_begin_new, leads_are_of_actives, nothing_is_unsaid, worlds_fold,
 };
+pub use reports::{facts_have_lines, reports_are_of_runs};
